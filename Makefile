@@ -1,0 +1,15 @@
+# What can be run here. `make help` lists it.
+.PHONY: help vectors test bench
+
+help: ## this list
+	@grep -E '^[a-z]+:.*##' Makefile | sed -E 's/:.*## /\t/'
+
+vectors: ## prove SHA-256 and HMAC, then run the vectors of FIPS 180-4 and RFC 4231
+	rt check vectors
+	./target/bin/vectors
+
+test: ## everything: proofs, must-fail edits, programs (the merge gate)
+	bash .ci/run
+
+bench: ## speed of the hash against a plain C version
+	sh bench/run

@@ -1,0 +1,3 @@
+pub mod Same
+pub mod Hmac
+pub mod Keyed

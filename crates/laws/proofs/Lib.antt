@@ -1,0 +1,10 @@
+pub mod Choice
+pub mod Bytes
+pub mod Places
+pub mod Strings
+pub mod Edits
+pub mod Fields
+pub mod Building
+pub mod Lists
+pub mod Inserting
+pub mod Stores

@@ -1,0 +1,4 @@
+pub mod Forms
+pub mod Rows
+pub mod Order
+pub mod Lines

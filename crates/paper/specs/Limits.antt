@@ -1,0 +1,92 @@
+-- The limits of document 01, each said once. Later files cite them by name.
+use Prim.Native.Nat.{ℕ}
+
+-- the store
+abbrev pub recordBytes : ℕ
+recordBytes = 256
+
+abbrev pub fewestRecords : ℕ
+fewestRecords = 2
+
+abbrev pub mostRecords : ℕ
+mostRecords = 256
+
+-- handles: a session's number is below 65,536, an object's at most 999
+abbrev pub handleStep : ℕ
+handleStep = 65536
+
+abbrev pub mostSessions : ℕ
+mostSessions = 65535
+
+abbrev pub mostObjects : ℕ
+mostObjects = 999
+
+-- strings in records
+abbrev pub longestId : ℕ
+longestId = 32
+
+abbrev pub longestPin : ℕ
+longestPin = 16
+
+abbrev pub longestPublicKey : ℕ
+longestPublicKey = 96
+
+abbrev pub keyBytes : ℕ
+keyBytes = 32
+
+abbrev pub macBytes : ℕ
+macBytes = 32
+
+-- calls, and the strings in them that no record keeps
+abbrev pub shortestCall : ℕ
+shortestCall = 5
+
+abbrev pub longestCall : ℕ
+longestCall = 16384
+
+abbrev pub longestServerKey : ℕ
+longestServerKey = 512
+
+abbrev pub longestManagementKey : ℕ
+longestManagementKey = 512
+
+abbrev pub longestUri : ℕ
+longestUri = 1000
+
+abbrev pub longestNonce : ℕ
+longestNonce = 64
+
+abbrev pub longestEncrypted : ℕ
+longestEncrypted = 64
+
+abbrev pub longestPinValue : ℕ
+longestPinValue = 64
+
+abbrev pub longestSeed : ℕ
+longestSeed = 64
+
+abbrev pub longestName : ℕ
+longestName = 100
+
+abbrev pub longestParameters : ℕ
+longestParameters = 8
+
+abbrev pub longestAuthorization : ℕ
+longestAuthorization = 512
+
+-- replies
+abbrev pub replyBytes : ℕ
+replyBytes = 37
+
+-- field ranges
+abbrev pub lastFormat : ℕ
+lastFormat = 3
+
+abbrev pub lastGrouping : ℕ
+lastGrouping = 1
+
+abbrev pub lastPatterns : ℕ
+lastPatterns = 7
+
+abbrev pub lastProtection : ℕ
+lastProtection = 3

@@ -1,0 +1,80 @@
+-- MACs and attestations: key, name, counter and data. Data speaks of the call's fields by name, never of places.
+use mathlib.Core.Bool.{Bool, true, false, cond, _||_}
+use mathlib.Core.List.{List, [], _∷_, _++_}
+use Prim.Native.Nat.{ℕ, _+_}
+use Prim.Native.String.{String}
+use lib.Dec.{eqb}
+use Rattle.hmac.specs.Hmac.{HMAC}
+use Rattle.hmac.specs.Same.{same}
+use Rattle.paper.specs.Bytes.{enc2, string, ascii}
+use Rattle.paper.specs.Form.{Rec, Form, say, no}
+use Rattle.paper.specs.Records.{sessionKey, macCounter, clientId, id, publicKey, userDefined, POLICY, PUK}
+use Rattle.paper.specs.Calls.{Close, Puk, Policy, Key, Path, Post}
+
+-- HMAC-SHA256 with key SessionKey, the name as plain bytes, and the counter joined.
+unfoldable pub macUnder : List ℕ → List ℕ → ℕ → List ℕ → List ℕ
+macUnder secret name counter text = HMAC (secret ++ name ++ enc2 counter) text
+
+-- The MAC of a call is made at the session's counter; an attestation, the second use of a call that makes one, at the next.
+abbrev pub mac : Rec → String → List ℕ → List ℕ
+mac ses name text = macUnder (sessionKey ses) (ascii name) (macCounter ses) text
+
+abbrev pub attestation : Rec → List ℕ → List ℕ
+attestation ses text = macUnder (sessionKey ses) (ascii "Device Attestation") (macCounter ses + 1) text
+
+-- How often a call uses the counter.
+abbrev pub uses : ℕ → ℕ
+uses method = cond (eqb method 3 || eqb method 10) 2 1
+
+-- A policy handle becomes the policy's ID, or `#N/A` if 0.
+abbrev pub notApplicable : List ℕ
+notApplicable = ascii "#N/A"
+
+abbrev pub idOr : ℕ → Rec → List ℕ
+idOr handle policy = cond (eqb handle 0) notApplicable (id policy)
+
+-- 3: ClientSessionID and Nonce
+abbrev pub closeData : Rec → Close → List ℕ
+closeData ses q = string (clientId ses) ++ string (q .nonce)
+
+-- 8: the fields from ID up to the MAC
+abbrev pub pukData : Puk → List ℕ
+pukData q = string (q .id) ++ string (q .encrypted) ++ (q .format ∷ q .retry ∷ [])
+
+-- 9: the same, with the PUK's ID
+abbrev pub policyData : Policy → Rec → List ℕ
+policyData q puk =
+    string (q .id) ++ string (idOr (q .puk) puk)
+    ++ (q .defined ∷ q .modifiable ∷ q .format ∷ q .retry ∷ q .grouping ∷ q .patterns ∷ q .shortest ∷ q .longest ∷ q .input ∷ [])
+
+-- 10: with the policy's ID; PINValue becomes `#N/A` if UserDefined or without policy; EndorsedAlgorithms is left out
+abbrev pub issuerSets : Key → Rec → Bool
+issuerSets q policy = cond (eqb (q .policy) 0) false (eqb (userDefined policy) 0)
+
+abbrev pub pinValueOr : Key → Rec → List ℕ
+pinValueOr q policy = cond (issuerSets q policy) (q .pinValue) notApplicable
+
+abbrev pub keyData : Key → Rec → List ℕ
+keyData q policy =
+    string (q .id) ++ string (q .entryAlgorithm) ++ string (q .seed) ++ string (idOr (q .policy) policy)
+    ++ string (pinValueOr q policy) ++ (q .caching ∷ q .biometric ∷ q .export ∷ q .deletion ∷ q .usage ∷ [])
+    ++ string (q .friendly) ++ string (q .keyAlgorithm) ++ string (q .parameters)
+
+-- 12: the key's ID, its public key and the certificates
+abbrev pub eachString : List (List ℕ) → List ℕ
+eachString [] = []
+eachString (v ∷ vs) = string v ++ eachString vs
+
+abbrev pub pathData : Rec → Path → List ℕ
+pathData k q = string (id k) ++ string (publicKey k) ++ eachString (q .certificates)
+
+-- 50, 51: Authorization
+abbrev pub postData : Post → List ℕ
+postData q = string (q .authorization)
+
+-- Attestations: 10 over ID and public key, close over Nonce.
+abbrev pub keyAttested : Key → List ℕ
+keyAttested q = string (q .id) ++ string (q .public)
+
+abbrev pub closeAttested : Close → List ℕ
+closeAttested q = string (q .nonce)

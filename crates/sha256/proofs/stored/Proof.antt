@@ -1,0 +1,70 @@
+-- Invariant: j bytes of d stand from place k on, and every other byte is the old one (`paste`).
+use mathlib.Core.Path.{_≡_}
+use Prim.Native.Nat.{_-_, _≤_}
+use native.Mathlib.Omega.{arith}
+use borrow.Author.Needs.{needs}
+use lib.ListN.{length, drop, length-set}
+use lib.Seq.{paste, paste-zero}
+use denote.Ref.{now}
+use Rattle.sha256.proofs.Standing.{paste-more}
+use Rattle.sha256.proofs.stored.Statement.{statement}
+use Rattle.sha256.proofs.stored.Tie as tie
+
+abbrev Inv-loop : tie.InvT-loop
+Inv-loop k d at n b₀ j₀ b j = (j ≤ n) × (length b₀ ≡ 64) × (length b ≡ 64) × (b ≡ paste b₀ k (drop at d) j)
+
+abbrev μ-loop : tie.MeasureT-loop
+μ-loop k d at n b₀ j₀ b j = n - j
+
+loop-holds : tie.Need-loop-holds Inv-loop μ-loop
+loop-holds c = (search needs, search needs, search needs, paste-zero _ (c .args .k) (drop (c .args .at) (now (c .args .d))))
+
+add-b : tie.Need-add-b Inv-loop μ-loop
+add-b c = search needs
+
+shared-slice-read-b : tie.Need-shared-slice-read-b Inv-loop μ-loop
+shared-slice-read-b c = search needs
+
+add-b-2 : tie.Need-add-b-2 Inv-loop μ-loop
+add-b-2 c = search needs
+
+array-write-b : tie.Need-array-write-b Inv-loop μ-loop
+array-write-b c = search needs
+
+add-j : tie.Need-add-j Inv-loop μ-loop
+add-j c = search needs
+
+loop-less : tie.Need-loop-less Inv-loop μ-loop
+loop-less c = search needs
+
+loop-again : tie.Need-loop-again Inv-loop μ-loop
+loop-again c =
+    let l = c .before .before .loop in
+    let a = c .before .before .before .args in (
+      omega arith,
+      l .inv .1,
+      simp length-set (l .inv .2),
+      paste-more _ (l .b) (now (a .d)) (a .k) (a .at) (l .j) (omega arith) (omega arith) (l .inv .3),
+    )
+
+returns : tie.Need-returns Inv-loop μ-loop
+returns c =
+    let l = c .before .loop in
+    let e : l .j ≡ c .before .before .args .n = omega arith in
+    rw (← e) (l .inv .3)
+
+pub stored-spec : {M : Type 1} → statement M
+stored-spec =
+    tie.close
+    (tie.spec
+    Inv-loop
+    μ-loop
+    loop-holds
+    add-b
+    shared-slice-read-b
+    add-b-2
+    array-write-b
+    add-j
+    loop-less
+    loop-again
+    returns)
