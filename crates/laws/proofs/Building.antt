@@ -1,21 +1,20 @@
 -- A record made of its fields' bytes obeys the table, and gives its fields back.
 use mathlib.Core.Path.{_≡_, refl, sym, ap, ap₂, _∙_}
-use mathlib.Core.Bool.{Bool, true, false, _&&_}
+use mathlib.Core.Bool.{true}
 use mathlib.Core.List.{List, [], _∷_, _++_, append-assoc}
-use Prim.Native.Nat.{ℕ, zero, suc, _+_, _-_, _%_, _≤_, _<_}
+use Prim.Native.Nat.{ℕ, zero, suc, _+_, _-_, _≤_, _<_}
 use native.Mathlib.Omega.{arith}
 use native.Mathlib.Nat.{add-zero, zero-add}
-use lib.ListN.{length, getD, replicate, length-append, length-replicate, List·getD-append}
+use lib.ListN.{length, replicate, length-append, length-replicate, List·getD-append}
 use lib.Seq.{getD-append-add}
-use lib.Dec.{leb}
 use borrow.Author.Tests.{le-leb}
 use Rattle.paper.specs.Limits.{recordBytes}
-use Rattle.paper.specs.Bytes.{byte, two, four, part, enc2, zerosOf, padded, textAt, within, allWithin}
+use Rattle.paper.specs.Bytes.{byte, two, part, enc2, zerosOf, padded, textAt, within, allWithin}
 use Rattle.paper.specs.Form.{Rec}
 use Rattle.paper.specs.Records.{kind}
-use Rattle.paper.specs.Table.{Field, u8, u16, u32, bytes, blank, text, ident, width, right, fits, isText, isBlank, printable, fieldsOf, obeysTable}
+use Rattle.paper.specs.Table.{Field, u8, u16, bytes, blank, text, ident, width, right, fits, isText, isBlank, printable, fieldsOf, obeysTable}
 use Rattle.paper.specs.Act.{flat}
-use Rattle.laws.proofs.Bytes.{list-same, byte-part, length-part, part-short, all-within, part-same}
+use Rattle.laws.proofs.Bytes.{list-same, byte-part, length-part, part-short, all-within}
 use Rattle.laws.proofs.Strings.{length-padded, padded-length, padded-zero, text-of}
 use Rattle.laws.proofs.Fields.{joint, right-moved, total, tabled}
 
@@ -82,13 +81,21 @@ part-built j [] (v ∷ vs) pre m = absurd m
 part-built j (f ∷ fs) [] pre m = absurd m
 part-built zero (f ∷ fs) (v ∷ vs) pre m = rw (add-zero (length pre), ← (m .0)) (part-seam pre v (flat vs))
 part-built (suc j) (f ∷ fs) (v ∷ vs) pre m =
-    ap₂ (λ (i : ℕ) (r : Rec). part i (wide j fs) r) (let e = length-append pre v in let q = m .0 in omega arith) (sym (append-assoc pre v (flat vs))) ∙ part-built j fs vs (pre ++ v) (m .2)
+    ap₂ (λ (i : ℕ) (r : Rec). part i (wide j fs) r) (let e = length-append pre v in let q = m .0 in omega arith) (sym (append-assoc pre v (flat vs)))
+    ∙ part-built j fs vs (pre ++ v) (m .2)
 
 pub field-built : (j : ℕ) (fs : List Field) (vs : List (List ℕ)) → Match fs vs → part (offset j fs) (wide j fs) (flat vs) ≡ nth j vs
 field-built j fs vs m = rw (zero-add (offset j fs)) at (part-built j fs vs [] m)
 
 pub tabled-built : (k : ℕ) (vs : List (List ℕ)) → Match (fieldsOf k) vs → kind (flat vs) ≡ k → total (fieldsOf k) ≡ recordBytes → obeysTable (flat vs) ≡ true
 tabled-built k vs m e w = tabled k (flat vs) e (length-built (fieldsOf k) vs m ∙ w) (fits-built (fieldsOf k) vs [] m)
+
+-- a field is right where a right value stands
+pub right-part : (f : Field) (i : ℕ) (r : Rec) (v : List ℕ) → part i (width f) r ≡ v → i + width f ≤ length r → right f 0 v ≡ true → right f i r ≡ true
+right-part f i r v e room t =
+    let l = ap length (sym e) ∙ length-part i (width f) r room in
+    right-moved 0 i v r f (λ j h. sym (byte-part i (width f) j r h) ∙ ap (byte j) e ∙ ap (λ (k : ℕ). byte k v) (sym (zero-add j)))
+    (omega arith) room t
 
 -- ---- values that are right for their fields
 
@@ -130,19 +137,24 @@ right-blank n = blank-zeros 0 n n
 -- a padded string
 module _ (n lo : ℕ) (v : List ℕ) (a : lo ≤ length v) (b : length v ≤ n) (small : n < 256) where
   whole : part 0 (suc n) (padded n v) ≡ padded n v
-  whole = list-same (padded n v) (part 0 (suc n) (padded n v)) (length-part 0 (suc n) (padded n v) (let l = length-padded n v b in omega arith) ∙ sym (length-padded n v b))
+  whole =
+      list-same (padded n v) (part 0 (suc n) (padded n v))
+      (length-part 0 (suc n) (padded n v) (let l = length-padded n v b in omega arith) ∙ sym (length-padded n v b))
       (λ j l. byte-part 0 (suc n) j (padded n v) (rw (length-padded n v b) at l) ∙ ap (λ (i : ℕ). byte i (padded n v)) (zero-add j))
 
   pub text-padded : textAt 0 (padded n v) ≡ v
   text-padded = text-of 0 n (padded n v) v whole b small (let l = length-padded n v b in omega arith)
 
   pub right-text : right (text n lo) 0 (padded n v) ≡ true
-  right-text = rw (padded-length n v (omega arith)) (joint (within lo n (length v)) (isBlank (part (0 + 1 + length v) (n - length v) (padded n v))) (rw (le-leb lo (length v) a, le-leb (length v) n b)) rest)
+  right-text =
+      rw (padded-length n v (omega arith))
+      (joint (within lo n (length v)) (isBlank (part (0 + 1 + length v) (n - length v) (padded n v))) (rw (le-leb lo (length v) a, le-leb (length v) n b)) rest)
     where
       rest : isBlank (part (0 + 1 + length v) (n - length v) (padded n v)) ≡ true
       rest = all-within 0 0 (part (0 + 1 + length v) (n - length v) (padded n v)) (λ j l. (omega arith, zero-here j l))
         where
-          zero-here : (j : ℕ) → j < length (part (0 + 1 + length v) (n - length v) (padded n v)) → byte j (part (0 + 1 + length v) (n - length v) (padded n v)) ≤ 0
+          zero-here : (j : ℕ) → j < length (part (0 + 1 + length v) (n - length v) (padded n v))
+              → byte j (part (0 + 1 + length v) (n - length v) (padded n v)) ≤ 0
           zero-here j l =
               let w = length-part (0 + 1 + length v) (n - length v) (padded n v) (let l = length-padded n v b in omega arith) in
               let q : 0 + 1 + length v + j ≡ suc (length v + j) = omega arith in
@@ -150,3 +162,37 @@ module _ (n lo : ℕ) (v : List ℕ) (a : lo ≤ length v) (b : length v ≤ n) 
 
   pub right-ident : printable v ≡ true → right (ident n lo) 0 (padded n v) ≡ true
   right-ident p = joint (isText n lo 0 (padded n v)) (printable (textAt 0 (padded n v))) right-text (ap printable text-padded ∙ p)
+
+-- ---- values and fields written side by side
+
+-- a value that is as wide as its field, and right for it
+pub record Suits (f : Field) (v : List ℕ) : Type 0 where
+  pub wide : length v ≡ width f
+  pub right : right f 0 v ≡ true
+
+infixr 20 _&_
+pub data Suited : List Field → List (List ℕ) → Type 0 where
+  done : Suited [] []
+  _&_ : {f : Field} {v : List ℕ} {fs : List Field} {vs : List (List ℕ)} → Suits f v → Suited fs vs → Suited (f ∷ fs) (v ∷ vs)
+
+pub match : {fs : List Field} {vs : List (List ℕ)} → Suited fs vs → Match fs vs
+match done = tt
+match (s & m) = (s .wide, s .right, match m)
+
+pub is-u8 : (lo hi n : ℕ) → lo ≤ n → n ≤ hi → Suits (u8 lo hi) (n ∷ [])
+is-u8 lo hi n a b = record { wide = refl; right = right-u8 lo hi n a b }
+
+pub is-u16 : (lo hi n : ℕ) → lo ≤ n → n ≤ hi → n < 65536 → Suits (u16 lo hi) (enc2 n)
+is-u16 lo hi n a b h = record { wide = refl; right = right-u16 lo hi n a b h }
+
+pub is-bytes : (n : ℕ) (v : List ℕ) → length v ≡ n → Suits (bytes n) v
+is-bytes n v l = record { wide = l; right = refl }
+
+pub is-blank : (n : ℕ) → Suits (blank n) (zerosOf n)
+is-blank n = record { wide = length-replicate {A = ℕ} n 0; right = right-blank n }
+
+pub is-text : (n lo : ℕ) (v : List ℕ) → lo ≤ length v → length v ≤ n → n < 256 → Suits (text n lo) (padded n v)
+is-text n lo v a b h = record { wide = length-padded n v b; right = right-text n lo v a b h }
+
+pub is-ident : (n lo : ℕ) (v : List ℕ) → lo ≤ length v → length v ≤ n → n < 256 → printable v ≡ true → Suits (ident n lo) (padded n v)
+is-ident n lo v a b h p = record { wide = length-padded n v b; right = right-ident n lo v a b h p }

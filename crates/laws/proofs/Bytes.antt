@@ -1,17 +1,17 @@
 -- Bytes, numbers and parts of a list, read after bytes were written over it.
-use mathlib.Core.Path.{_≡_, refl, sym, ap, ap₂, _∙_, subst}
+use mathlib.Core.Path.{_≡_, refl, sym, ap, ap₂, _∙_}
 use mathlib.Core.Bool.{Bool, true, false, _&&_}
-use mathlib.Core.List.{List, [], _∷_, _++_}
+use mathlib.Core.List.{List, [], _∷_}
 use mathlib.Core.Logic.{_⊎_, inl, inr}
-use Prim.Native.Nat.{ℕ, zero, suc, _+_, _-_, _*_, _/_, _%_, _≤_, _<_}
+use Prim.Native.Nat.{ℕ, zero, suc, _+_, _*_, _/_, _%_, _≤_, _<_}
 use native.Mathlib.Omega.{arith}
 use native.Mathlib.Nat.{add-zero, add-suc, suc-add, add-assoc, min-le-left}
 use native.Mathlib.Numerals.{add-one}
-use lib.ListN.{length, getD, take, drop, set, replicate, length-set, length-take, length-drop, drop-of-length-le, List·getD-eq-default}
-use lib.Seq.{sets, length-sets, getD-set-same, getD-set-other, drop-cons, getD-take, getD-drop, length-take-le, take-nil, ext-getD}
-use lib.Dec.{eqb, leb}
+use lib.ListN.{length, getD, drop, set, length-set, length-take, length-drop, drop-of-length-le, List·getD-eq-default}
+use lib.Seq.{length-sets, getD-set-same, getD-set-other, drop-cons, getD-take, getD-drop, length-take-le, take-nil, ext-getD}
+use lib.Dec.{leb}
 use borrow.Author.Tests.{leb-true, le-leb}
-use Rattle.paper.specs.Bytes.{byte, two, four, part, enc1, enc2, enc4, over, zerosOf, within, allWithin}
+use Rattle.paper.specs.Bytes.{byte, two, four, part, enc2, enc4, over, within, allWithin}
 use Rattle.paper.proofs.Forms.{contrary, cases}
 use Rattle.paper.specs.Form.{_=<_}
 
@@ -39,8 +39,10 @@ byte-over-other k j (v ∷ b) s (inr h) = byte-over-other (suc k) j b (set s k v
 pub byte-over-same : (k j : ℕ) (b s : List ℕ) → j < length b → k + length b ≤ length s → byte (k + j) (over k b s) ≡ byte j b
 unfolding byte over
 byte-over-same k j [] s h g = absurd (omega arith)
-byte-over-same k zero (v ∷ b) s h g = rw (add-zero k) (byte-over-other (suc k) k b (set s k v) (inr (omega arith)) ∙ getD-set-same s k v 0 (omega arith))
-byte-over-same k (suc j) (v ∷ b) s h g = rw (add-suc k j, ← (suc-add k j)) (byte-over-same (suc k) j b (set s k v) (omega arith) (rw length-set (omega arith)))
+byte-over-same k zero (v ∷ b) s h g =
+    rw (add-zero k) (byte-over-other (suc k) k b (set s k v) (inr (omega arith)) ∙ getD-set-same s k v 0 (omega arith))
+byte-over-same k (suc j) (v ∷ b) s h g =
+    rw (add-suc k j, ← (suc-add k j)) (byte-over-same (suc k) j b (set s k v) (omega arith) (rw length-set (omega arith)))
 
 -- ---- parts
 
@@ -72,7 +74,8 @@ part-same k (suc n) s t l h = cases (suc k =< length s)
     (λ i. part-past k (suc n) t (omega arith) ∙ sym (part-past k (suc n) s (omega arith)))
   where
     more : k < length s → part (suc k) n t ≡ part (suc k) n s → part k (suc n) t ≡ part k (suc n) s
-    more i e = part-cons k n t (omega arith) ∙ ap₂ {C = List ℕ} (λ (b : ℕ) (p : List ℕ). b ∷ p) (h k (omega arith) (omega arith)) e ∙ sym (part-cons k n s i)
+    more i e =
+        part-cons k n t (omega arith) ∙ ap₂ {C = List ℕ} (λ (b : ℕ) (p : List ℕ). b ∷ p) (h k (omega arith) (omega arith)) e ∙ sym (part-cons k n s i)
 
 pub part-over-other : (k i n : ℕ) (b s : List ℕ) → (k + length b ≤ i) ⊎ (i + n ≤ k) → part i n (over k b s) ≡ part i n s
 part-over-other k i n b s h = part-same i n s (over k b s) (length-over k b s) (λ j p q. byte-over-other k j b s (far j p q h))
@@ -96,19 +99,23 @@ pub two-same : (k : ℕ) (s t : List ℕ) → byte k t ≡ byte k s → byte (k 
 unfolding two
 two-same k s t a b = rw (a, b)
 
-pub four-same : (k : ℕ) (s t : List ℕ) → byte k t ≡ byte k s → byte (k + 1) t ≡ byte (k + 1) s → byte (k + 2) t ≡ byte (k + 2) s → byte (k + 3) t ≡ byte (k + 3) s
+pub four-same : (k : ℕ) (s t : List ℕ) → byte k t ≡ byte k s → byte (k + 1) t ≡ byte (k + 1) s → byte (k + 2) t ≡ byte (k + 2) s
+    → byte (k + 3) t ≡ byte (k + 3) s
     → four k t ≡ four k s
 unfolding four
 four-same k s t a b c d = rw (a, b, c, d)
 
 pub two-over-other : (k i : ℕ) (b s : List ℕ) → (k + length b ≤ i) ⊎ (i + 2 ≤ k) → two i (over k b s) ≡ two i s
 two-over-other k i b s (inl h) = two-same i s (over k b s) (byte-over-other k i b s (inl h)) (byte-over-other k (i + 1) b s (inl (omega arith)))
-two-over-other k i b s (inr h) = two-same i s (over k b s) (byte-over-other k i b s (inr (omega arith))) (byte-over-other k (i + 1) b s (inr (omega arith)))
+two-over-other k i b s (inr h) =
+    two-same i s (over k b s) (byte-over-other k i b s (inr (omega arith))) (byte-over-other k (i + 1) b s (inr (omega arith)))
 
 pub four-over-other : (k i : ℕ) (b s : List ℕ) → (k + length b ≤ i) ⊎ (i + 4 ≤ k) → four i (over k b s) ≡ four i s
 four-over-other k i b s h =
-    four-same i s (over k b s) (byte-over-other k i b s (far i (omega arith) (omega arith) h)) (byte-over-other k (i + 1) b s (far (i + 1) (omega arith) (omega arith) h))
-    (byte-over-other k (i + 2) b s (far (i + 2) (omega arith) (omega arith) h)) (byte-over-other k (i + 3) b s (far (i + 3) (omega arith) (omega arith) h))
+    four-same i s (over k b s) (byte-over-other k i b s (far i (omega arith) (omega arith) h))
+    (byte-over-other k (i + 1) b s (far (i + 1) (omega arith) (omega arith) h))
+    (byte-over-other k (i + 2) b s (far (i + 2) (omega arith) (omega arith) h))
+    (byte-over-other k (i + 3) b s (far (i + 3) (omega arith) (omega arith) h))
   where
     far : (j : ℕ) → i ≤ j → j < i + 4 → (k + length b ≤ i) ⊎ (i + 4 ≤ k) → (k + length b ≤ j) ⊎ (j < k)
     far j p q (inl a) = inl (omega arith)

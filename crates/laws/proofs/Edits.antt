@@ -1,13 +1,13 @@
 -- The edits of a record: which places each touches, and what stands there afterwards.
-use mathlib.Core.Path.{_≡_, refl, sym, ap, _∙_, subst}
-use mathlib.Core.Bool.{Bool, true, false}
+use mathlib.Core.Path.{_≡_, sym, ap, _∙_, subst}
+use mathlib.Core.Bool.{Bool}
 use mathlib.Core.List.{List, [], _∷_}
-use mathlib.Core.Logic.{inl, inr}
-use Prim.Native.Nat.{ℕ, suc, _+_, _%_, _≤_, _<_}
+use mathlib.Core.Logic.{inl}
+use Prim.Native.Nat.{ℕ, _+_, _%_, _≤_, _<_}
 use native.Mathlib.Omega.{arith}
 use lib.ListN.{length}
 use lib.Dec.{lit≤, lit<}
-use Rattle.paper.specs.Bytes.{byte, two, four, part, enc1, enc2, enc4, zerosOf, padded, over}
+use Rattle.paper.specs.Bytes.{byte, part, enc1, enc2, enc4, zerosOf, padded, over}
 use Rattle.paper.specs.Limits.{longestPin}
 use Rattle.paper.specs.Form.{Rec}
 use Rattle.paper.specs.Records.{parent, isStale, nextObject, macCounter, nextSession, pathSet, digest, state, sessionKey, CLOSED}
@@ -16,7 +16,7 @@ use Rattle.paper.specs.Closing.{stale, shut}
 use Rattle.paper.specs.Act.{moved}
 use Rattle.paper.specs.Objects.{certified}
 use Rattle.paper.specs.Users.{newPin}
-use Rattle.laws.proofs.Bytes.{length-over, byte-over, two-over, four-over, four-of, byte-over-other, two-over-other, part-over-other, part-over-same}
+use Rattle.laws.proofs.Bytes.{length-over, byte-over, two-over, four-over, four-of, two-over-other, part-over-other, part-over-same}
 use Rattle.laws.proofs.Places.{Same, from, _∪_, same-over, same-then}
 use Rattle.laws.proofs.Strings.{length-padded}
 
@@ -45,7 +45,9 @@ staleAt = _∪_ (from 12 4) (from 2 1)
 
 pub stale-same : (r : Rec) → Same staleAt r (stale r)
 unfolding stale
-stale-same r = same-then (from 12 4) (from 2 1) r (over 12 (zerosOf 4) r) (over 2 (1 ∷ []) (over 12 (zerosOf 4) r)) (same-over 12 (zerosOf 4) r) (same-over 2 (1 ∷ []) (over 12 (zerosOf 4) r))
+stale-same r =
+    same-then (from 12 4) (from 2 1) r (over 12 (zerosOf 4) r) (over 2 (1 ∷ []) (over 12 (zerosOf 4) r)) (same-over 12 (zerosOf 4) r)
+    (same-over 2 (1 ∷ []) (over 12 (zerosOf 4) r))
 
 pub stale-parent : (r : Rec) → 16 ≤ length r → parent (stale r) ≡ 0
 unfolding stale
@@ -68,7 +70,9 @@ module _ (objects used : ℕ) (r : Rec) where
 
   pub moved-same : Same movedAt r (moved objects used r)
   unfolding moved
-  moved-same = same-then (from 114 2) (from 2 2) r counted (over 2 (enc2 (nextObject r + objects)) counted) (same-over 114 (enc2 (macCounter r + used)) r) (same-over 2 (enc2 (nextObject r + objects)) counted)
+  moved-same =
+      same-then (from 114 2) (from 2 2) r counted (over 2 (enc2 (nextObject r + objects)) counted) (same-over 114 (enc2 (macCounter r + used)) r)
+      (same-over 2 (enc2 (nextObject r + objects)) counted)
 
   pub moved-next : 116 ≤ length r → nextObject r + objects < 65536 → nextObject (moved objects used r) ≡ nextObject r + objects
   unfolding moved
@@ -94,7 +98,9 @@ certifiedAt = _∪_ (from 179 32) (from 1 1)
 module _ (d : List ℕ) (long : length d ≡ 32) (r : Rec) where
   pub certified-same : Same certifiedAt r (certified d r)
   unfolding certified
-  certified-same = same-then (from 179 32) (from 1 1) r (over 179 d r) (over 1 (1 ∷ []) (over 179 d r)) (subst (λ (n : ℕ). Same (from 179 n) r (over 179 d r)) long (same-over 179 d r)) (same-over 1 (1 ∷ []) (over 179 d r))
+  certified-same =
+      same-then (from 179 32) (from 1 1) r (over 179 d r) (over 1 (1 ∷ []) (over 179 d r))
+      (subst (λ (n : ℕ). Same (from 179 n) r (over 179 d r)) long (same-over 179 d r)) (same-over 1 (1 ∷ []) (over 179 d r))
 
   pub certified-path : 211 ≤ length r → pathSet (certified d r) ≡ 1
   unfolding certified
@@ -125,7 +131,8 @@ module _ (r : Rec) where
   unfolding shut
   shut-same =
       same-then (_∪_ (from 114 2) (from 82 32)) (from 1 1) r wiped (over 1 (CLOSED ∷ []) wiped)
-      (same-then (from 114 2) (from 82 32) r used wiped (same-over 114 (enc2 (macCounter r + 2)) r) (same-over 82 (zerosOf 32) used)) (same-over 1 (CLOSED ∷ []) wiped)
+      (same-then (from 114 2) (from 82 32) r used wiped (same-over 114 (enc2 (macCounter r + 2)) r) (same-over 82 (zerosOf 32) used))
+      (same-over 1 (CLOSED ∷ []) wiped)
 
   pub shut-state : 116 ≤ length r → state (shut r) ≡ CLOSED
   unfolding shut
@@ -133,7 +140,9 @@ module _ (r : Rec) where
 
   pub shut-key : 116 ≤ length r → sessionKey (shut r) ≡ zerosOf 32
   unfolding shut
-  shut-key h = part-over-other 1 82 32 (CLOSED ∷ []) wiped (inl (lit≤ tt)) ∙ part-over-same 82 (zerosOf 32) used (rw (length-over 114 (enc2 (macCounter r + 2)) r) (omega arith))
+  shut-key h =
+      part-over-other 1 82 32 (CLOSED ∷ []) wiped (inl (lit≤ tt)) ∙ part-over-same 82 (zerosOf 32) used
+      (rw (length-over 114 (enc2 (macCounter r + 2)) r) (omega arith))
 
   pub shut-mac : 116 ≤ length r → macCounter r + 2 < 65536 → macCounter (shut r) ≡ macCounter r + 2
   unfolding shut
@@ -146,8 +155,12 @@ module _ (r : Rec) where
 module _ (v : List ℕ) (short : length v ≤ longestPin) (r : Rec) where
   pub pin-same : Same (from 49 17) r (newPin v r)
   unfolding newPin
-  pin-same = subst (λ (n : ℕ). Same (from 49 n) r (over 49 (padded longestPin v) r)) (length-padded longestPin v short) (same-over 49 (padded longestPin v) r)
+  pin-same =
+      subst (λ (n : ℕ). Same (from 49 n) r (over 49 (padded longestPin v) r)) (length-padded longestPin v short)
+      (same-over 49 (padded longestPin v) r)
 
   pub pin-is : 66 ≤ length r → part 49 17 (newPin v r) ≡ padded longestPin v
   unfolding newPin
-  pin-is h = ap (λ (n : ℕ). part 49 n (over 49 (padded longestPin v) r)) (sym (length-padded longestPin v short)) ∙ part-over-same 49 (padded longestPin v) r (rw (length-padded longestPin v short) h)
+  pin-is h =
+      ap (λ (n : ℕ). part 49 n (over 49 (padded longestPin v) r)) (sym (length-padded longestPin v short)) ∙ part-over-same 49 (padded longestPin v) r
+      (rw (length-padded longestPin v short) h)

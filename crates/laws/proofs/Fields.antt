@@ -1,5 +1,5 @@
 -- The table's fields: a field's form goes with its bytes, so an edit leaves the fields right that it does not touch.
-use mathlib.Core.Path.{_≡_, refl, sym, ap, ap₂, _∙_, subst}
+use mathlib.Core.Path.{_≡_, refl, sym, ap, _∙_}
 use mathlib.Core.Bool.{Bool, true, false, _&&_, cond}
 use mathlib.Core.List.{List, [], _∷_}
 use Prim.Native.Nat.{ℕ, zero, suc, _+_, _-_, _≤_, _<_}
@@ -36,9 +36,11 @@ module _ (i k : ℕ) (x y : Rec) where
       each j l =
           let p : k + o + j ≡ k + (o + j) = omega arith in
           let q : i + o + j ≡ i + (o + j) = omega arith in
-          byte-part (k + o) w j y l ∙ ap (λ (t : ℕ). byte t y) p ∙ m (o + j) (omega arith) ∙ sym (byte-part (i + o) w j x l ∙ ap (λ (t : ℕ). byte t x) q)
+          byte-part (k + o) w j y l ∙ ap (λ (t : ℕ). byte t y) p ∙ m (o + j) (omega arith) ∙ sym
+          (byte-part (i + o) w j x l ∙ ap (λ (t : ℕ). byte t x) q)
 
-  text-moved : (n lo : ℕ) → Moved (suc n) → i + suc n ≤ length x → k + suc n ≤ length y → isText n lo i x ≡ true → (isText n lo k y ≡ true) × (textAt k y ≡ textAt i x)
+  text-moved : (n lo : ℕ) → Moved (suc n) → i + suc n ≤ length x → k + suc n ≤ length y → isText n lo i x ≡ true
+      → (isText n lo k y ≡ true) × (textAt k y ≡ textAt i x)
   unfolding textAt
   text-moved n lo m a b t =
       let w = split (within lo n (byte i x)) (isBlank (part (i + 1 + byte i x) (n - byte i x) x)) t in
@@ -94,7 +96,8 @@ fits-kept touched x x′ same (f ∷ fs) i l h t =
     go true q e p k = let w = split (right f i x′) (retest touched fs (i + width f) x′) e in joint (right f i x′) (fits fs (i + width f) x′) (w .0) (k (w .1))
     go false q e p k =
         joint (right f i x′) (fits fs (i + width f) x′)
-        (right-moved i i x x′ f (λ j a. same .at (i + j) (missed touched i (width f) q (i + j) (omega arith) (omega arith))) (omega arith) (let s = same .long in omega arith) p) (k e)
+        (right-moved i i x x′ f (λ j a. same .at (i + j) (missed touched i (width f) q (i + j) (omega arith) (omega arith))) (omega arith) (let s = same .long in omega arith) p)
+        (k e)
 
 -- the n-th field's own test
 abbrev pub field : ℕ → List Field → ℕ → Rec → Bool

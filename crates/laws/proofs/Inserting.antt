@@ -1,16 +1,14 @@
 -- A new record at the lowest free place: who is there afterwards, and what is said of every record or every pair.
 use mathlib.Core.Path.{_≡_, refl, sym, ap, _∙_, subst}
-use mathlib.Core.Bool.{Bool, true, false, not, _&&_, _||_, cond}
+use mathlib.Core.Bool.{Bool, true, false, _&&_, _||_, cond}
 use mathlib.Core.List.{List, [], _∷_, List·Memᴰ, List·Memᴰ·head, List·Memᴰ·tail, List·Memᴰ·cases-cons, List·Memᴰ·not-nil}
 use mathlib.Core.Logic.{_⊎_, inl, inr}
-use Prim.Native.Nat.{ℕ, zero, suc, _+_, _≤_, _<_}
+use Prim.Native.Nat.{ℕ, zero, suc, _+_, _≤_}
 use native.Mathlib.Omega.{arith}
 use lib.ListN.{length, replicate, length-replicate}
-use lib.Dec.{eqb, leb}
-use Rattle.hmac.specs.Same.{same}
 use Rattle.hmac.proofs.Sameness.{same-eq, eq-same}
-use Rattle.paper.specs.Bytes.{byte, two, four, zerosOf}
-use Rattle.paper.specs.Form.{Rec, Form, every, exists, Pairs}
+use Rattle.paper.specs.Bytes.{byte, two, four}
+use Rattle.paper.specs.Form.{Rec, Form, test, every, exists, Pairs, keep, seek}
 use Rattle.paper.specs.Records.{kind, zeros, isFree, insert}
 use Rattle.paper.proofs.Forms.{contrary}
 use Rattle.laws.proofs.Choice.{either}
@@ -134,4 +132,22 @@ every-insert t n (x ∷ rs) a z = go (isFree x) refl (every-insert t n rs a z)
   where
     go : (b : Bool) → isFree x ≡ b → every t (insert n rs) ≡ every t rs → every t (cond b (n ∷ rs) (x ∷ insert n rs)) ≡ (t x && every t rs)
     go true e i = rw (a, ap t (free-is x e) ∙ z)
+    go false e i = rw i
+
+-- records kept or sought that are neither the new one nor free
+pub keep-insert : (φ : Rec → Form) (n : Rec) (rs : List Rec) → test (φ n) ≡ false → test (φ zeros) ≡ false → keep φ (insert n rs) ≡ keep φ rs
+keep-insert φ n [] a z = refl
+keep-insert φ n (x ∷ rs) a z = go (isFree x) refl (keep-insert φ n rs a z)
+  where
+    go : (b : Bool) → isFree x ≡ b → keep φ (insert n rs) ≡ keep φ rs
+        → keep φ (cond b (n ∷ rs) (x ∷ insert n rs)) ≡ cond (test (φ x)) (x ∷ keep φ rs) (keep φ rs)
+    go true e i = rw (a, ap (λ (r : Rec). test (φ r)) (free-is x e) ∙ z)
+    go false e i = rw i
+
+pub seek-insert : (φ : Rec → Form) (n : Rec) (rs : List Rec) → test (φ n) ≡ false → test (φ zeros) ≡ false → seek φ (insert n rs) ≡ seek φ rs
+seek-insert φ n [] a z = refl
+seek-insert φ n (x ∷ rs) a z = go (isFree x) refl (seek-insert φ n rs a z)
+  where
+    go : (b : Bool) → isFree x ≡ b → seek φ (insert n rs) ≡ seek φ rs → seek φ (cond b (n ∷ rs) (x ∷ insert n rs)) ≡ cond (test (φ x)) x (seek φ rs)
+    go true e i = rw (a, ap (λ (r : Rec). test (φ r)) (free-is x e) ∙ z)
     go false e i = rw i

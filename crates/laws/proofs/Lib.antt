@@ -8,3 +8,8 @@ pub mod Building
 pub mod Lists
 pub mod Inserting
 pub mod Stores
+pub mod Losses
+pub mod Verdicts
+pub mod CallStrings
+pub mod Facts
+pub mod Handles

@@ -1,15 +1,15 @@
 -- Tests over lists of records: through an edit of each, through keeping some, and the first record of which a statement holds.
 use mathlib.Core.Path.{_≡_, refl, sym, ap, _∙_, subst}
-use mathlib.Core.Bool.{Bool, true, false, _&&_, _||_, cond}
-use mathlib.Core.List.{List, [], _∷_, map, List·Memᴰ, List·Memᴰ·head, List·Memᴰ·tail, List·Memᴰ·cases-cons, List·Memᴰ·not-nil, Memᴰ·of-map, Memᴰ·map}
+use mathlib.Core.Bool.{Bool, true, false, cond}
+use mathlib.Core.List.{List, [], _∷_, map, List·Memᴰ, List·Memᴰ·head, List·Memᴰ·tail, List·Memᴰ·cases-cons, List·Memᴰ·not-nil, Memᴰ·of-map}
 use mathlib.Core.Logic.{_⊎_, inl, inr}
-use Prim.Native.Nat.{ℕ, zero, suc}
+use Prim.Native.Nat.{ℕ, suc}
 use lib.ListN.{length}
 use Rattle.paper.specs.Bytes.{byte}
-use Rattle.paper.specs.Form.{Rec, Form, some, each, test, Fact, every, exists, Pairs, keep, seek}
+use Rattle.paper.specs.Form.{Rec, Form, some, test, Fact, every, exists, Pairs, keep, seek}
 use Rattle.paper.specs.Records.{is, at, block, bears}
-use Rattle.paper.proofs.Forms.{both, cases, contrary}
-use Rattle.laws.proofs.Choice.{choose}
+use Rattle.paper.proofs.Forms.{both, cases}
+use Rattle.laws.proofs.Choice.{choose, either}
 
 -- ---- an edit of every record
 
@@ -60,7 +60,9 @@ pairs-cases P (z ∷ rs) p x y mx my = go (List·Memᴰ·cases-cons mx) (List·M
 module _ (φ : Rec → Form) where
   pub mem-keep : (rs : List Rec) {x : Rec} → List·Memᴰ x (keep φ rs) → List·Memᴰ x rs × Fact (φ x)
   mem-keep [] m = absurd (List·Memᴰ·not-nil m)
-  mem-keep (y ∷ ys) {x} m = choose (λ l. List·Memᴰ x l → List·Memᴰ x (y ∷ ys) × Fact (φ x)) (φ y) (y ∷ keep φ ys) (keep φ ys) (λ p n. first p (λ w. mem-keep ys w) (List·Memᴰ·cases-cons n)) (λ p n. later (mem-keep ys n)) m
+  mem-keep (y ∷ ys) {x} m =
+      choose (λ l. List·Memᴰ x l → List·Memᴰ x (y ∷ ys) × Fact (φ x)) (φ y) (y ∷ keep φ ys) (keep φ ys)
+      (λ p n. first p (λ w. mem-keep ys w) (List·Memᴰ·cases-cons n)) (λ p n. later (mem-keep ys n)) m
     where
       later : List·Memᴰ x ys × Fact (φ x) → List·Memᴰ x (y ∷ ys) × Fact (φ x)
       later w = (List·Memᴰ·tail (w .0), w .1)
@@ -71,7 +73,9 @@ module _ (φ : Rec → Form) where
 
   pub keep-mem : (rs : List Rec) {x : Rec} → List·Memᴰ x rs → Fact (φ x) → List·Memᴰ x (keep φ rs)
   keep-mem [] m p = absurd (List·Memᴰ·not-nil m)
-  keep-mem (y ∷ ys) {x} m p = choose (λ l. List·Memᴰ x l) (φ y) (y ∷ keep φ ys) (keep φ ys) (λ q. yes (λ w. keep-mem ys w p) (List·Memᴰ·cases-cons m)) (λ q. no-y q (λ w. keep-mem ys w p) (List·Memᴰ·cases-cons m))
+  keep-mem (y ∷ ys) {x} m p =
+      choose (λ l. List·Memᴰ x l) (φ y) (y ∷ keep φ ys) (keep φ ys) (λ q. yes (λ w. keep-mem ys w p) (List·Memᴰ·cases-cons m))
+      (λ q. no-y q (λ w. keep-mem ys w p) (List·Memᴰ·cases-cons m))
     where
       yes : (List·Memᴰ x ys → List·Memᴰ x (keep φ ys)) → (x ≡ y) ⊎ List·Memᴰ x ys → List·Memᴰ x (y ∷ keep φ ys)
       yes h (inl i) = List·Memᴰ·head i
@@ -96,7 +100,9 @@ module _ (φ : Rec → Form) where
 
   pub unsought : (rs : List Rec) → (Fact (some rs φ) → ⊥) → seek φ rs ≡ []
   unsought [] n = refl
-  unsought (x ∷ xs) n = choose (λ y. y ≡ []) (φ x) x (seek φ xs) (λ p. absurd (n (x, List·Memᴰ·head refl, p))) (λ q. unsought xs (λ w. n (w .0, List·Memᴰ·tail (w .1), w .2)))
+  unsought (x ∷ xs) n =
+      choose (λ y. y ≡ []) (φ x) x (seek φ xs) (λ p. absurd (n (x, List·Memᴰ·head refl, p)))
+      (λ q. unsought xs (λ w. n (w .0, List·Memᴰ·tail (w .1), w .2)))
 
   -- a byte other than 0 tells that one was found
   pub sought-byte : (rs : List Rec) (j : ℕ) → (byte j (seek φ rs) ≡ 0 → ⊥) → Fact (some rs φ)
@@ -111,6 +117,39 @@ seek-keep φ ψ (x ∷ xs) h =
   where
     yes : seek φ (keep ψ xs) ≡ seek φ xs → seek φ (x ∷ keep ψ xs) ≡ seek φ (x ∷ xs)
     yes e = rw e
+
+-- ---- kept and sought records through an edit of each
+
+-- the edit changes nothing of the statement
+pub keep-map : (φ : Rec → Form) (f : Rec → Rec) (rs : List Rec) → ((x : Rec) → List·Memᴰ x rs → test (φ (f x)) ≡ test (φ x))
+    → keep φ (map f rs) ≡ map f (keep φ rs)
+keep-map φ f [] h = refl
+keep-map φ f (x ∷ rs) h = rw (h x (List·Memᴰ·head refl)) (go (test (φ x)) (keep-map φ f rs (λ y m. h y (List·Memᴰ·tail m))))
+  where
+    go : (b : Bool) → keep φ (map f rs) ≡ map f (keep φ rs) → cond b (f x ∷ keep φ (map f rs)) (keep φ (map f rs)) ≡ map f (cond b (x ∷ keep φ rs) (keep φ rs))
+    go true e = rw e
+    go false e = e
+
+pub seek-map : (φ : Rec → Form) (f : Rec → Rec) (rs : List Rec) → f [] ≡ [] → ((x : Rec) → List·Memᴰ x rs → test (φ (f x)) ≡ test (φ x))
+    → seek φ (map f rs) ≡ f (seek φ rs)
+seek-map φ f [] z h = sym z
+seek-map φ f (x ∷ rs) z h = rw (h x (List·Memᴰ·head refl)) (go (test (φ x)) (seek-map φ f rs z (λ y m. h y (List·Memᴰ·tail m))))
+  where
+    go : (b : Bool) → seek φ (map f rs) ≡ f (seek φ rs) → cond b (f x) (seek φ (map f rs)) ≡ f (cond b x (seek φ rs))
+    go true e = refl
+    go false e = e
+
+-- the edit changes none of the records of which the statement holds, and makes no others
+pub keep-still : (φ : Rec → Form) (f : Rec → Rec) (rs : List Rec) → ((x : Rec) → List·Memᴰ x rs → Fact (φ x) → f x ≡ x)
+    → ((x : Rec) → List·Memᴰ x rs → Fact (φ (f x)) → Fact (φ x))
+    → keep φ (map f rs) ≡ keep φ rs
+keep-still φ f [] h g = refl
+keep-still φ f (x ∷ rs) h g = cases (φ x)
+    (λ p. rw (h x (List·Memᴰ·head refl) p, both (φ x) .1 p) (ap (λ (l : List Rec). x ∷ l) (keep-still φ f rs (λ y m. h y (List·Memᴰ·tail m)) (λ y m. g y (List·Memᴰ·tail m)))))
+    (λ n. rw (no-test x n, no-test (f x) (λ p. n (g x (List·Memᴰ·head refl) p))) (keep-still φ f rs (λ y m. h y (List·Memᴰ·tail m)) (λ y m. g y (List·Memᴰ·tail m))))
+  where
+    no-test : (y : Rec) → (Fact (φ y) → ⊥) → test (φ y) ≡ false
+    no-test y n = either (test (φ y)) (λ e. absurd (n (both (φ y) .0 e))) (λ e. e)
 
 -- ---- look-ups, and a session's own records
 

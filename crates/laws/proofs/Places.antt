@@ -1,12 +1,12 @@
 -- Which places an edit touches. Fields that stand elsewhere are the same after it.
-use mathlib.Core.Path.{_≡_, refl, sym, _∙_}
+use mathlib.Core.Path.{_≡_, refl, _∙_}
 use mathlib.Core.Bool.{Bool, true, false, _&&_, _||_}
-use mathlib.Core.List.{List, [], _∷_}
-use mathlib.Core.Logic.{_⊎_, inl, inr}
+use mathlib.Core.List.{List}
+use mathlib.Core.Logic.{inl, inr}
 use Prim.Native.Nat.{ℕ, zero, suc, _+_, _≤_, _<_}
 use native.Mathlib.Omega.{arith}
 use lib.ListN.{length}
-use lib.Dec.{eqb, leb, ltb}
+use lib.Dec.{leb, ltb}
 use borrow.Author.Tests.{leb-false, ltb-false}
 use Rattle.paper.specs.Bytes.{byte, two, four, part, over}
 use Rattle.paper.specs.Form.{Rec, _==_}
@@ -62,10 +62,14 @@ missed touched i (suc n) e j a b =
 -- fields that no edit touches
 module _ (touched : ℕ → Bool) (x x′ : Rec) (same : Same touched x x′) where
   pub two-kept : (i : ℕ) → hit touched i 2 ≡ false → two i x′ ≡ two i x
-  two-kept i e = two-same i x x′ (same .at i (missed touched i 2 e i (omega arith) (omega arith))) (same .at (i + 1) (missed touched i 2 e (i + 1) (omega arith) (omega arith)))
+  two-kept i e =
+      two-same i x x′ (same .at i (missed touched i 2 e i (omega arith) (omega arith)))
+      (same .at (i + 1) (missed touched i 2 e (i + 1) (omega arith) (omega arith)))
 
   pub four-kept : (i : ℕ) → hit touched i 4 ≡ false → four i x′ ≡ four i x
-  four-kept i e = four-same i x x′ (off i (omega arith) (omega arith)) (off (i + 1) (omega arith) (omega arith)) (off (i + 2) (omega arith) (omega arith)) (off (i + 3) (omega arith) (omega arith))
+  four-kept i e =
+      four-same i x x′ (off i (omega arith) (omega arith)) (off (i + 1) (omega arith) (omega arith)) (off (i + 2) (omega arith) (omega arith))
+      (off (i + 3) (omega arith) (omega arith))
     where
       off : (j : ℕ) → i ≤ j → j < i + 4 → byte j x′ ≡ byte j x
       off j a b = same .at j (missed touched i 4 e j a b)

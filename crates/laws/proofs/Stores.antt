@@ -1,9 +1,8 @@
 -- A store as its records and back: nothing is lost where every record has 256 bytes.
-use mathlib.Core.Path.{_≡_, refl, sym, ap, ap₂, _∙_, subst}
-use mathlib.Core.Bool.{Bool, true, false, cond}
+use mathlib.Core.Path.{_≡_, refl, ap, _∙_}
 use mathlib.Core.List.{List, [], _∷_, _++_, List·Memᴰ, List·Memᴰ·head, List·Memᴰ·tail, List·Memᴰ·cases-cons, List·Memᴰ·not-nil}
 use mathlib.Core.Logic.{_⊎_, inl, inr}
-use Prim.Native.Nat.{ℕ, zero, suc, _+_, _-_, _*_, _/_, _%_, _≤_, _<_}
+use Prim.Native.Nat.{ℕ, zero, suc, _*_, _/_, _%_, _≤_}
 use native.Mathlib.Omega.{arith}
 use lib.ListN.{length, take, drop, length-append, length-drop, take-append-drop}
 use lib.Seq.{take-at, drop-at, length-take-le}
@@ -63,7 +62,8 @@ unfolding recordsOf
 whole-of zero s l x m = absurd (List·Memᴰ·not-nil m)
 whole-of (suc n) s l x m = go (List·Memᴰ·cases-cons m) (λ w. whole-of n (drop recordBytes s) (let d = length-drop recordBytes s in omega arith) x w)
   where
-    go : (x ≡ take recordBytes s) ⊎ List·Memᴰ x (recordsOf n (drop recordBytes s)) → (List·Memᴰ x (recordsOf n (drop recordBytes s)) → length x ≡ recordBytes) → length x ≡ recordBytes
+    go : (x ≡ take recordBytes s) ⊎ List·Memᴰ x (recordsOf n (drop recordBytes s))
+        → (List·Memᴰ x (recordsOf n (drop recordBytes s)) → length x ≡ recordBytes) → length x ≡ recordBytes
     go (inl e) h = ap length e ∙ length-take-le recordBytes s (omega arith)
     go (inr w) h = h w
 

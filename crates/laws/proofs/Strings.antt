@@ -1,19 +1,19 @@
 -- A record's string: its length byte, its bytes and its zeros are one and the same as the padded string.
-use mathlib.Core.Path.{_≡_, refl, sym, ap, ap₂, _∙_}
-use mathlib.Core.Bool.{Bool, true, false, _&&_}
-use mathlib.Core.List.{List, [], _∷_, _++_}
-use Prim.Native.Nat.{ℕ, zero, suc, _+_, _-_, _%_, _≤_, _<_}
+use mathlib.Core.Path.{_≡_, refl, sym, ap, _∙_}
+use mathlib.Core.Bool.{true}
+use mathlib.Core.List.{List}
+use Prim.Native.Nat.{ℕ, zero, suc, _+_, _-_, _≤_, _<_}
 use native.Mathlib.Omega.{arith}
 use native.Mathlib.Nat.{add-zero}
-use lib.ListN.{length, getD, take, drop, replicate, length-append, length-replicate, getD-replicate, List·getD-append}
-use lib.Seq.{getD-append-add, take-append-seam, drop-append-seam, take-all}
+use lib.ListN.{length, getD, replicate, length-append, length-replicate, List·getD-append}
+use lib.Seq.{getD-append-add}
 use lib.Dec.{leb}
-use borrow.Author.Tests.{leb-true, le-leb}
-use Rattle.paper.specs.Bytes.{byte, part, padded, zerosOf, textAt, within, allWithin}
+use borrow.Author.Tests.{leb-true}
+use Rattle.paper.specs.Bytes.{byte, part, padded, zerosOf, textAt, within}
 use Rattle.paper.specs.Form.{Rec, _=<_}
 use Rattle.paper.specs.Table.{isText, isBlank}
 use Rattle.paper.proofs.Forms.{cases}
-use Rattle.laws.proofs.Bytes.{split, list-same, byte-part, length-part, byte-past, all-at, all-within}
+use Rattle.laws.proofs.Bytes.{split, list-same, byte-part, length-part, all-at}
 
 pub length-padded : (n : ℕ) (v : List ℕ) → length v ≤ n → length (padded n v) ≡ suc n
 length-padded n v h =
@@ -51,7 +51,9 @@ module _ (i n : ℕ) (r : Rec) (v : List ℕ) (e : part i (suc n) r ≡ padded n
 
   pub text-of : i + suc n ≤ length r → textAt i r ≡ v
   unfolding textAt
-  text-of room = rw text-length (list-same v (part (i + 1) (length v) r) (length-part (i + 1) (length v) r (omega arith)) (λ j l. byte-part (i + 1) (length v) j r l ∙ next j l))
+  text-of room =
+      rw text-length
+      (list-same v (part (i + 1) (length v) r) (length-part (i + 1) (length v) r (omega arith)) (λ j l. byte-part (i + 1) (length v) j r l ∙ next j l))
     where
       next : (j : ℕ) → j < length v → byte (i + 1 + j) r ≡ byte j v
       next j l = let q : i + 1 + j ≡ i + suc j = omega arith in ap (λ (k : ℕ). byte k r) q ∙ at (suc j) (omega arith) ∙ padded-byte n v j l
@@ -60,7 +62,8 @@ module _ (i n : ℕ) (r : Rec) (v : List ℕ) (e : part i (suc n) r ≡ padded n
 pub padded-of : (n lo i : ℕ) (r : Rec) → isText n lo i r ≡ true → i + suc n ≤ length r → n < 256 → part i (suc n) r ≡ padded n (textAt i r)
 unfolding textAt
 padded-of n lo i r t room small =
-    list-same (padded n v) (part i (suc n) r) (length-part i (suc n) r room ∙ sym (length-padded n v (rw long most))) (λ j l. byte-part i (suc n) j r (rw (length-padded n v (rw long most)) at l) ∙ each j (rw (length-padded n v (rw long most)) at l))
+    list-same (padded n v) (part i (suc n) r) (length-part i (suc n) r room ∙ sym (length-padded n v (rw long most)))
+    (λ j l. byte-part i (suc n) j r (rw (length-padded n v (rw long most)) at l) ∙ each j (rw (length-padded n v (rw long most)) at l))
   where
     v : List ℕ
     v = part (i + 1) (byte i r) r

@@ -1,0 +1,3 @@
+pub mod Views
+pub mod Places
+pub mod Blanks

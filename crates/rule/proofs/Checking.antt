@@ -1,0 +1,185 @@
+-- Status 0 means that no refusal of the method's list applied, the MAC's among them.
+use mathlib.Core.Path.{_≡_, refl, sym, ap, ap₂, _∙_}
+use mathlib.Core.Bool.{Bool, true, false, not, _&&_, _||_, cond}
+use mathlib.Core.List.{List, [], _∷_}
+use mathlib.Core.Logic.{_⊎_, inl, inr}
+use Prim.Native.Nat.{ℕ, _≤_}
+use Prim.Native.String.{String}
+use native.Mathlib.Omega.{arith}
+use lib.Dec.{eqb, leb}
+use borrow.Author.Tests.{leb-true}
+use Rattle.hmac.specs.Same.{same}
+use Rattle.hmac.proofs.Sameness.{same-eq}
+use Rattle.paper.specs.Form.{Rec, Form, say, no, test, Fact, Fault, _gives_, settle}
+use Rattle.paper.specs.Records.{records, SESSION, PUK, POLICY, KEY, at, block}
+use Rattle.paper.specs.Calls.{method, subject, isSessionCall, close, puk, policy, key, path, post}
+use Rattle.paper.specs.Mac.{mac, closeData, pukData, policyData, keyData, pathData, postData}
+use Rattle.paper.specs.Objects.{pukFaults, makePuk, policyFaults, makePolicy, keyFaults, makeKey, pathFaults, setPath}
+use Rattle.paper.specs.Posting.{Look, look, postFaults, postAs, postDelete, postUnlock}
+use Rattle.paper.specs.Sessions.{closeFaults, closeSession, abortSession}
+use Rattle.paper.specs.Act.{Out, Act, refuse, perform}
+use Rattle.paper.specs.Answer.{answer, sessionAct, sessionStep, step}
+use Rattle.paper.proofs.Forms.{Agree, both, cases, contrary, Clear}
+use Rattle.laws.proofs.Choice.{holds}
+use Rattle.laws.proofs.Lists.{at-block}
+use Rattle.rule.specs.Refusals.{Taken}
+use Rattle.rule.specs.Checked.{caller, object, Accepted, Checked}
+use Rattle.rule.proofs.Refusing.{status-is, session-step}
+
+-- every refusal of a list has a number
+abbrev pub numbered : List Fault → Bool
+numbered [] = true
+numbered ((φ gives n) ∷ fs) = leb 1 n && numbered fs
+
+refused : (t n : ℕ) (rs : List Rec) → 1 ≤ n → perform t (refuse n) rs .status ≡ 0 → ⊥
+unfolding perform
+refused t n rs l e = omega arith
+
+-- what is answered 0 was refused by no statement of its list
+pub zero-clear : (t : ℕ) (rs : List Rec) (fs : List Fault) (b : Act) → numbered fs ≡ true
+    → perform t (settle fs refuse b) rs .status ≡ 0 → Clear fs
+zero-clear t rs [] b e z = tt
+zero-clear t rs ((φ gives n) ∷ fs) b e z = go (test φ) (both φ) (leb 1 n) refl e z (λ f y. zero-clear t rs fs b f y)
+  where
+    go : (u : Bool) → Agree u (Fact φ) → (v : Bool) → leb 1 n ≡ v → (v && numbered fs) ≡ true
+        → perform t (cond u (refuse n) (settle fs refuse b)) rs .status ≡ 0
+        → (numbered fs ≡ true → perform t (settle fs refuse b) rs .status ≡ 0 → Clear fs) → (Fact φ → ⊥) × Clear fs
+    go u a false l f y k = contrary (sym f)
+    go true a true l f y k = absurd (refused t n rs (leb-true 1 n l) y)
+    go false a true l f y k = ((λ p. contrary (sym (a .1 p))), k f y)
+
+-- two lists of bytes that did not differ
+agreed : (given made : List ℕ) → (Fact (no (say (same given made))) → ⊥) → given ≡ made
+agreed given made n = same-eq given made (holds (say (same given made)) n)
+
+-- which list a method goes by
+module _ (c chip : List ℕ) (blk : List Rec) (l : Look) where
+  pub act-3 : method c ≡ 3 → sessionAct c chip blk l ≡ closeSession c chip blk
+  unfolding sessionAct
+  act-3 e = rw e
+
+  pub act-8 : method c ≡ 8 → sessionAct c chip blk l ≡ makePuk c chip blk
+  unfolding sessionAct
+  act-8 e = rw e
+
+  pub act-9 : method c ≡ 9 → sessionAct c chip blk l ≡ makePolicy c chip blk
+  unfolding sessionAct
+  act-9 e = rw e
+
+  pub act-10 : method c ≡ 10 → sessionAct c chip blk l ≡ makeKey c chip blk
+  unfolding sessionAct
+  act-10 e = rw e
+
+  pub act-12 : method c ≡ 12 → sessionAct c chip blk l ≡ setPath c chip blk
+  unfolding sessionAct
+  act-12 e = rw e
+
+  pub act-50 : method c ≡ 50 → sessionAct c chip blk l ≡ postDelete c chip blk l
+  unfolding sessionAct
+  act-50 e = rw e
+
+  pub act-51 : method c ≡ 51 → sessionAct c chip blk l ≡ postUnlock c chip blk l
+  unfolding sessionAct
+  act-51 e = rw e
+
+module _ (m : ℕ) (s c chip reply : List ℕ) (a : Accepted m s c chip reply) (h : Fact (isSessionCall c)) where
+  abbrev rs : List Rec
+  rs = records s
+
+  abbrev t : ℕ
+  t = subject c
+
+  -- the act that was performed
+  pub zero-act : (b : Act) → sessionAct c chip (block t rs) (look (post c chip .key) rs) ≡ b → perform t b rs .status ≡ 0
+  unfolding sessionStep
+  zero-act b e =
+      ap (λ (x : Act). perform t x rs .status) (sym e)
+      ∙ sym (ap (λ (o : Out). o .status) (session-step c chip rs h))
+      ∙ sym (status-is s c chip reply (a .taken))
+      ∙ a .zero
+
+-- the MAC's refusal, taken from each list by its statement
+module _ (s c chip reply : List ℕ) where
+  abbrev blk : List Rec
+  blk = block (subject c) (records s)
+
+  abbrev ses : Rec
+  ses = at SESSION (subject c) (subject c) blk
+
+  same-session : ses ≡ caller s c
+  same-session = at-block SESSION (subject c) (subject c) (records s)
+
+  same-object : (k o : ℕ) → at k o (subject c) blk ≡ object s c k o
+  same-object k o = at-block k o (subject c) (records s)
+
+  abbrev seen : Look
+  seen = look (post c chip .key) (records s)
+
+  -- no refusal of the method's list applied
+  cleared : (m : ℕ) (fs : List Fault) (d : Act) → numbered fs ≡ true → Fact (isSessionCall c) → Accepted m s c chip reply
+      → sessionAct c chip blk seen ≡ settle fs refuse d → Clear fs
+  cleared m fs d n h a e = zero-clear (subject c) (records s) fs d n (zero-act m s c chip reply a h (settle fs refuse d) e)
+
+  closes : Accepted 3 s c chip reply → close c .mac ≡ mac (caller s c) "closeProvisioningSession" (closeData (caller s c) (close c))
+  unfolding closeSession
+  closes a =
+      let k : Clear (closeFaults c chip (close c) ses blk) = cleared 3 (closeFaults c chip (close c) ses blk) _ refl (inl (a .is)) a (act-3 c chip blk seen (a .is)) in
+      agreed (close c .mac) (mac ses "closeProvisioningSession" (closeData ses (close c))) (search)
+      ∙ ap (λ (x : Rec). mac x "closeProvisioningSession" (closeData x (close c))) same-session
+
+  puks : Accepted 8 s c chip reply → puk c chip .mac ≡ mac (caller s c) "createPUKPolicy" (pukData (puk c chip))
+  unfolding makePuk
+  puks a =
+      let k : Clear (pukFaults c chip (puk c chip) ses blk) = cleared 8 (pukFaults c chip (puk c chip) ses blk) _ refl (inr (inr (inl (a .is)))) a (act-8 c chip blk seen (a .is)) in
+      agreed (puk c chip .mac) (mac ses "createPUKPolicy" (pukData (puk c chip))) (search)
+      ∙ ap (λ (x : Rec). mac x "createPUKPolicy" (pukData (puk c chip))) same-session
+
+  policies : Accepted 9 s c chip reply
+      → policy c .mac ≡ mac (caller s c) "createPINPolicy" (policyData (policy c) (object s c PUK (policy c .puk)))
+  unfolding makePolicy
+  policies a =
+      let u : Rec = at PUK (policy c .puk) (subject c) blk in
+      let k : Clear (policyFaults c chip (policy c) u ses blk) = cleared 9 (policyFaults c chip (policy c) u ses blk) _ refl (inr (inr (inr (inl (a .is))))) a (act-9 c chip blk seen (a .is)) in
+      agreed (policy c .mac) (mac ses "createPINPolicy" (policyData (policy c) u)) (search)
+      ∙ ap₂ (λ (x y : Rec). mac x "createPINPolicy" (policyData (policy c) y)) same-session (same-object PUK (policy c .puk))
+
+  keys : Accepted 10 s c chip reply
+      → key c chip .mac ≡ mac (caller s c) "createKeyEntry" (keyData (key c chip) (object s c POLICY (key c chip .policy)))
+  unfolding makeKey
+  keys a =
+      let p : Rec = at POLICY (key c chip .policy) (subject c) blk in
+      let k : Clear (keyFaults c chip (key c chip) p ses blk) =
+      cleared 10 (keyFaults c chip (key c chip) p ses blk) _ refl (inr (inr (inr (inr (inl (a .is)))))) a (act-10 c chip blk seen (a .is)) in
+      agreed (key c chip .mac) (mac ses "createKeyEntry" (keyData (key c chip) p)) (search)
+      ∙ ap₂ (λ (x y : Rec). mac x "createKeyEntry" (keyData (key c chip) y)) same-session (same-object POLICY (key c chip .policy))
+
+  paths : Accepted 12 s c chip reply
+      → path c .mac ≡ mac (caller s c) "setCertificatePath" (pathData (object s c KEY (path c .key)) (path c))
+  unfolding setPath
+  paths a =
+      let x : Rec = at KEY (path c .key) (subject c) blk in
+      let k : Clear (pathFaults c chip (path c) x ses) =
+      cleared 12 (pathFaults c chip (path c) x ses) _ refl (inr (inr (inr (inr (inr (inl (a .is))))))) a (act-12 c chip blk seen (a .is)) in
+      agreed (path c .mac) (mac ses "setCertificatePath" (pathData x (path c))) (search)
+      ∙ ap₂ (λ (y z : Rec). mac y "setCertificatePath" (pathData z (path c))) same-session (same-object KEY (path c .key))
+
+  posts : (op : ℕ) (name : String) → Clear (postFaults op name c chip (post c chip) ses blk seen)
+      → post c chip .mac ≡ mac (caller s c) name (postData (post c chip))
+  posts op name k =
+      agreed (post c chip .mac) (mac ses name (postData (post c chip))) (search)
+      ∙ ap (λ (x : Rec). mac x name (postData (post c chip))) same-session
+
+  deletions : Accepted 50 s c chip reply → post c chip .mac ≡ mac (caller s c) "postDeleteKey" (postData (post c chip))
+  unfolding postAs
+  deletions a =
+      posts 50 "postDeleteKey"
+      (cleared 50 (postFaults 50 "postDeleteKey" c chip (post c chip) ses blk seen) _ refl (inr (inr (inr (inr (inr (inr (inl (a .is)))))))) a (act-50 c chip blk seen (a .is)))
+
+  unlockings : Accepted 51 s c chip reply → post c chip .mac ≡ mac (caller s c) "postUnlockKey" (postData (post c chip))
+  unfolding postAs
+  unlockings a =
+      posts 51 "postUnlockKey"
+      (cleared 51 (postFaults 51 "postUnlockKey" c chip (post c chip) ses blk seen) _ refl (inr (inr (inr (inr (inr (inr (inr (inl (a .is))))))))) a (act-51 c chip blk seen (a .is)))
+
+pub checked : Checked
+checked = record { closes = closes; puks = puks; policies = policies; keys = keys; paths = paths; deletions = deletions; unlockings = unlockings }
