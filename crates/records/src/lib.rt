@@ -13,12 +13,13 @@ ghost use Rattle.records.specs.View.{index};
 ghost use Rattle.records.specs.Choices.{chosen};
 
 // Which records are meant: those of a kind; by kind, own handle and session; of these such as have a retry limit; by session; by
-// kind, parent and session; a session's unstale pendings on a key; all pendings on a key; free places.
+// kind and session; by kind, parent and session; a session's unstale pendings on a key; all pendings on a key; free places.
 pub enum Choice {
     Kind(u8),
     That(u8, u32, u32),
     Limited(u8, u32, u32),
     Bears(u32),
+    Of(u8, u32),
     Child(u8, u32, u32),
     Held(u32, u32),
     Aimed(u32),
@@ -77,6 +78,15 @@ pub fn bears(r: &[u8], handle: u32) -> bool
     four_at(r, 8) == handle
 }
 
+pub fn is_of(r: &[u8], sort: u8, session: u32) -> bool
+    ensures { λ b. ⌜ b ≡ test (chosen (Choice.Of sort session) (now (r .entry))) ⌝ }
+{
+    if !is_kind(r, sort) {
+        return false;
+    }
+    bears(r, session)
+}
+
 pub fn is_child(r: &[u8], sort: u8, parent: u32, session: u32) -> bool
     ensures { λ b. ⌜ b ≡ test (chosen (Choice.Child sort parent session) (now (r .entry))) ⌝ }
 {
@@ -130,6 +140,7 @@ pub fn is_chosen(r: &[u8], c: Choice) -> bool
         Choice::That(kind, own, session) => is_that(r, kind, own, session),
         Choice::Limited(kind, own, session) => is_limited(r, kind, own, session),
         Choice::Bears(session) => bears(r, session),
+        Choice::Of(sort, session) => is_of(r, sort, session),
         Choice::Child(sort, parent, session) => is_child(r, sort, parent, session),
         Choice::Held(session, key) => is_held(r, session, key),
         Choice::Aimed(key) => is_aimed(r, key),

@@ -4,3 +4,10 @@ pub mod Checked
 pub mod Counted
 pub mod NothingCounts
 pub mod NobodyWaits
+pub mod Runs
+pub mod Stands
+pub mod Bags
+pub mod Orders
+pub mod Literally
+pub mod Congruence
+pub mod NeverAgain

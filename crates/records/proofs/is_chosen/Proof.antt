@@ -30,17 +30,23 @@ bears-requires c κs = search needs
 enum-known-c-5 : tie.Need-enum-known-c-5
 enum-known-c-5 c = search needs
 
-is-child-requires : tie.Need-is-child-requires
-is-child-requires c κs = search needs
+is-of-requires : tie.Need-is-of-requires
+is-of-requires c κs = search needs
 
 enum-known-c-6 : tie.Need-enum-known-c-6
 enum-known-c-6 c = search needs
 
-is-held-requires : tie.Need-is-held-requires
-is-held-requires c κs = search needs
+is-child-requires : tie.Need-is-child-requires
+is-child-requires c κs = search needs
 
 enum-known-c-7 : tie.Need-enum-known-c-7
 enum-known-c-7 c = search needs
+
+is-held-requires : tie.Need-is-held-requires
+is-held-requires c κs = search needs
+
+enum-known-c-8 : tie.Need-enum-known-c-8
+enum-known-c-8 c = search needs
 
 is-aimed-requires : tie.Need-is-aimed-requires
 is-aimed-requires c κs = search needs
@@ -64,16 +70,19 @@ returns-4 : tie.Need-returns-4
 returns-4 c = rw (c .before .before .c4 .given .1) (c .bears .ensures)
 
 returns-5 : tie.Need-returns-5
-returns-5 c = rw (c .before .before .c5 .given .1) (c .is-child .ensures)
+returns-5 c = rw (c .before .before .c5 .given .1) (c .is-of .ensures)
 
 returns-6 : tie.Need-returns-6
-returns-6 c = rw (c .before .before .c6 .given .1) (c .is-held .ensures)
+returns-6 c = rw (c .before .before .c6 .given .1) (c .is-child .ensures)
 
 returns-7 : tie.Need-returns-7
-returns-7 c = rw (c .before .before .c7 .given .1) (c .is-aimed .ensures)
+returns-7 c = rw (c .before .before .c7 .given .1) (c .is-held .ensures)
 
 returns-8 : tie.Need-returns-8
-returns-8 c = rw (c .before .enum-told .given .1) (c .is-free .ensures)
+returns-8 c = rw (c .before .before .c8 .given .1) (c .is-aimed .ensures)
+
+returns-9 : tie.Need-returns-9
+returns-9 c = rw (c .before .enum-told .given .1) (c .is-free .ensures)
 
 pub is-chosen-spec : {M : Type 1} → statement M
 is-chosen-spec =
@@ -88,10 +97,12 @@ is-chosen-spec =
     enum-known-c-4
     bears-requires
     enum-known-c-5
-    is-child-requires
+    is-of-requires
     enum-known-c-6
-    is-held-requires
+    is-child-requires
     enum-known-c-7
+    is-held-requires
+    enum-known-c-8
     is-aimed-requires
     enum-told
     is-free-requires
@@ -102,4 +113,5 @@ is-chosen-spec =
     returns-5
     returns-6
     returns-7
-    returns-8)
+    returns-8
+    returns-9)

@@ -1,0 +1,13 @@
+-- One comparison.
+use borrow.Author.Needs.{needs}
+use Rattle.acts.proofs.is_used_up.Statement.{statement}
+use Rattle.acts.proofs.is_used_up.Tie as tie
+
+two-at-requires : tie.Need-two-at-requires
+two-at-requires c κs = search needs
+
+returns : tie.Need-returns
+returns c = rw (c .two-at .ensures .0)
+
+pub is-used-up-spec : {M : Type 1} → statement M
+is-used-up-spec = tie.close (tie.spec two-at-requires returns)

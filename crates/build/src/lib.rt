@@ -1,0 +1,109 @@
+// A record drafted field by field, in the order of its layout: start, add fields, finish. The draft goes in and comes back by value.
+// What would pass byte 256 is left out, and what is not written is zero, so nothing is asked of a field's length.
+ghost use mathlib.Core.Path.{_≡_};
+ghost use mathlib.Core.List.{List, [], _∷_, _++_};
+ghost use Prim.Native.Nat.{ℕ, _-_};
+ghost use Rattle.paper.specs.Bytes.{enc2, enc4, zerosOf, padded as paddedTo};
+ghost use Rattle.build.specs.Drafts.{Drafts, laid};
+
+// A record under way: its bytes, and the place of the next. Only the functions here make one, so each holds the bytes it was given.
+pub struct Draft {
+    bytes: [u8; 256],
+    at: usize,
+}
+
+// No field written yet.
+pub fn start() -> Draft
+    ensures { λ r. ⌜ Drafts r [] ⌝ }
+{
+    Draft {
+        bytes: [0u8; 256],
+        at: 0,
+    }
+}
+
+// One byte more.
+pub fn byte(d: Draft, v: u8) -> Draft
+    ensures { λ r. ⌜ ((w : List ℕ) → Drafts d w → Drafts r (w ++ (v ∷ []))) ⌝ }
+{
+    let mut b = d.bytes;
+    let at = d.at;
+    if 256 <= at {
+        return d;
+    }
+    b[at] = v;
+    Draft {
+        bytes: b,
+        at: at + 1,
+    }
+}
+
+// The low two bytes of a number, and the low four.
+pub fn two(d: Draft, n: usize) -> Draft
+    ensures { λ r. ⌜ ((w : List ℕ) → Drafts d w → Drafts r (w ++ enc2 n)) ⌝ }
+{
+    byte(byte(d, (n / 256 % 256) as u8), (n % 256) as u8)
+}
+
+pub fn four(d: Draft, n: u64) -> Draft
+    ensures { λ r. ⌜ ((w : List ℕ) → Drafts d w → Drafts r (w ++ enc4 n)) ⌝ }
+{
+    let a = byte(d, (n / 256 / 256 / 256 % 256) as u8);
+    let b = byte(a, (n / 256 / 256 % 256) as u8);
+    let e = byte(b, (n / 256 % 256) as u8);
+    byte(e, (n % 256) as u8)
+}
+
+// The bytes of a slice.
+pub fn bytes(d: Draft, v: &[u8]) -> Draft
+    ensures { λ r. ⌜ ((w : List ℕ) → Drafts d w → Drafts r (w ++ now (v .entry))) ⌝ }
+{
+    let mut r = d;
+    let mut i: usize = 0;
+    while i < v.len() {
+        r = byte(r, v[i]);
+        i += 1;
+    }
+    r
+}
+
+// So many zeros.
+pub fn zeros(d: Draft, n: u8) -> Draft
+    ensures { λ r. ⌜ ((w : List ℕ) → Drafts d w → Drafts r (w ++ zerosOf n)) ⌝ }
+{
+    let mut r = d;
+    let mut i: u8 = 0;
+    while i < n {
+        r = byte(r, 0);
+        i += 1;
+    }
+    r
+}
+
+// How many zeros stand behind n bytes in a field of so many.
+fn left(longest: u8, n: usize) -> u8
+    ensures { λ r. ⌜ r ≡ longest - n ⌝ }
+{
+    let most = longest as usize;
+    if most < n {
+        return 0;
+    }
+    (most - n) as u8
+}
+
+// A string: its length in one byte, its bytes, zeros up to the longest.
+pub fn padded(d: Draft, longest: u8, v: &[u8]) -> Draft
+    ensures { λ r. ⌜ ((w : List ℕ) → Drafts d w → Drafts r (w ++ paddedTo longest (now (v .entry)))) ⌝ }
+{
+    let n = v.len();
+    let a = byte(d, (n % 256) as u8);
+    let b = bytes(a, v);
+    zeros(b, left(longest, n))
+}
+
+// The record.
+pub fn finish(d: Draft) -> [u8; 256]
+    ensures { λ r. ⌜ ((w : List ℕ) → Drafts d w → r ≡ laid w) ⌝ }
+{
+    d.bytes
+}

@@ -1,0 +1,26 @@
+-- Changed by value and put back (`turned-at`).
+use Rattle.deeds.proofs.Turns.{turned-at}
+use Rattle.deeds.specs.Deeds.{done}
+use borrow.Author.Needs.{needs}
+use mathlib.Core.Path.{_∙_, ap}
+use Rattle.deeds.proofs.turn_at.Statement.{statement}
+use Rattle.deeds.proofs.turn_at.Tie as tie
+
+copy-of-requires : tie.Need-copy-of-requires
+copy-of-requires c κs = search needs
+
+turned-requires : tie.Need-turned-requires
+turned-requires c κs = search needs
+
+put-requires : tie.Need-put-requires
+put-requires c κs = search needs
+
+same-length : tie.Need-same-length
+same-length c = search needs
+
+returns : tie.Need-returns
+returns c = let f = done (c .before .before .before .before .before .before .before .before .before .before .args .v .now) (c .before .before .before .before .before .before .before .before .before .before .args .n) in turned-at f (c .before .before .before .before .before .before .before .before .before .before .args .s .now) (c .before .before .before .before .before .before .before .before .before .before .args .i) _ _ (c .before .before .before .before .before .turned .ensures ∙ ap f (c .before .before .before .before .before .before .copy-of .ensures)) (c .before .before .put .ensures)
+
+pub turn-at-spec : {M : Type 1} → statement M
+turn-at-spec =
+    tie.close (tie.spec copy-of-requires turned-requires put-requires same-length returns)

@@ -1,0 +1,25 @@
+-- The tests of the fields joined are the table's row, however they are grouped.
+use Rattle.fields.proofs.Ands.{and-assoc, and-true}
+use borrow.Author.Needs.{needs}
+use Rattle.fields.proofs.fits_counter.Statement.{statement}
+use Rattle.fields.proofs.fits_counter.Tie as tie
+
+is-byte-requires : tie.Need-is-byte-requires
+is-byte-requires c κs = search needs
+
+is-blank-requires : tie.Need-is-blank-requires
+is-blank-requires c κs = search needs
+
+is-four-requires : tie.Need-is-four-requires
+is-four-requires c κs = search needs
+
+is-blank-requires-2 : tie.Need-is-blank-requires-2
+is-blank-requires-2 c κs = search needs
+
+returns : tie.Need-returns
+returns c = simp (c .before .before .before .is-byte .ensures, c .before .before .is-blank .ensures, c .before .is-four .ensures, c .is-blank2 .ensures, and-assoc, and-true)
+
+pub fits-counter-spec : {M : Type 1} → statement M
+fits-counter-spec =
+    tie.close
+    (tie.spec is-byte-requires is-blank-requires is-four-requires is-blank-requires-2 returns)

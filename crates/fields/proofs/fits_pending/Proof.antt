@@ -1,0 +1,34 @@
+-- The tests of the fields joined are the table's row, however they are grouped.
+use Rattle.fields.proofs.Ands.{and-assoc, and-true}
+use borrow.Author.Needs.{needs}
+use Rattle.fields.proofs.fits_pending.Statement.{statement}
+use Rattle.fields.proofs.fits_pending.Tie as tie
+
+is-byte-requires : tie.Need-is-byte-requires
+is-byte-requires c κs = search needs
+
+is-byte-requires-2 : tie.Need-is-byte-requires-2
+is-byte-requires-2 c κs = search needs
+
+is-byte-requires-3 : tie.Need-is-byte-requires-3
+is-byte-requires-3 c κs = search needs
+
+is-blank-requires : tie.Need-is-blank-requires
+is-blank-requires c κs = search needs
+
+is-blank-requires-2 : tie.Need-is-blank-requires-2
+is-blank-requires-2 c κs = search needs
+
+returns : tie.Need-returns
+returns c = simp (c .before .before .before .before .is-byte .ensures, c .before .before .before .is-byte2 .ensures, c .before .before .is-byte3 .ensures, c .before .is-blank .ensures, c .is-blank2 .ensures, and-assoc, and-true)
+
+pub fits-pending-spec : {M : Type 1} → statement M
+fits-pending-spec =
+    tie.close
+    (tie.spec
+    is-byte-requires
+    is-byte-requires-2
+    is-byte-requires-3
+    is-blank-requires
+    is-blank-requires-2
+    returns)

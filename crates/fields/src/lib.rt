@@ -1,0 +1,151 @@
+// The table of records as a test of one record: a function for each form of field, and for each kind its fields in the table's order.
+// A sound record passes every test, so the tests of a kind are all made and joined without a branch.
+use slices::all_within;
+use slices::byte_at;
+use slices::four_at;
+use slices::is_within;
+use slices::part_of;
+use slices::size_at;
+use slices::text_at;
+use slices::two_at;
+ghost use mathlib.Core.Path.{_≡_};
+ghost use Prim.Native.Nat.{_≤_};
+ghost use Rattle.paper.specs.Table.{u8 as Byte, u16 as Two, u32 as Four, blank, text, ident, right, fits, sessionFields, pukFields, policyFields, keyFields, pendingFields, counterFields, fieldsOf, obeysTable};
+
+fn is_byte(r: &[u8], i: usize, lo: u8, hi: u8) -> bool
+    ensures { λ b. ⌜ b ≡ right (Byte lo hi) i (now (r .entry)) ⌝ }
+{
+    is_within(byte_at(r, i), lo, hi)
+}
+
+fn is_two(r: &[u8], i: usize, lo: usize, hi: usize) -> bool
+    ensures { λ b. ⌜ b ≡ right (Two lo hi) i (now (r .entry)) ⌝ }
+{
+    let n = two_at(r, i);
+    (lo <= n) & (n <= hi)
+}
+
+fn is_four(r: &[u8], i: usize, lo: u32, hi: u32) -> bool
+    ensures { λ b. ⌜ b ≡ right (Four lo hi) i (now (r .entry)) ⌝ }
+{
+    let n = four_at(r, i);
+    (lo <= n) & (n <= hi)
+}
+
+fn is_blank(r: &[u8], i: usize, n: usize) -> bool
+    ensures { λ b. ⌜ b ≡ right (blank n) i (now (r .entry)) ⌝ }
+{
+    all_within(part_of(r, i, n), 0, 0)
+}
+
+fn is_text(r: &[u8], i: usize, n: usize, lo: usize) -> bool
+    requires { ⌜ i ≤ 255 ⌝ }
+    ensures { λ b. ⌜ b ≡ right (text n lo) i (now (r .entry)) ⌝ }
+{
+    let v = size_at(r, i);
+    if v < lo {
+        return false;
+    }
+    if n < v {
+        return false;
+    }
+    is_blank(r, i + 1 + v, n - v)
+}
+
+fn is_ident(r: &[u8], i: usize, n: usize, lo: usize) -> bool
+    requires { ⌜ i ≤ 255 ⌝ }
+    ensures { λ b. ⌜ b ≡ right (ident n lo) i (now (r .entry)) ⌝ }
+{
+    is_text(r, i, n, lo) & all_within(text_at(r, i), 0x21, 0x7e)
+}
+
+fn fits_session(r: &[u8]) -> bool
+    ensures { λ b. ⌜ b ≡ fits sessionFields 0 (now (r .entry)) ⌝ }
+{
+    let front = is_byte(r, 0, 1, 1)
+        & (is_byte(r, 1, 1, 2) & (is_two(r, 2, 1, 1000) & is_blank(r, 12, 4)));
+    let names = is_ident(r, 16, 32, 1) & is_ident(r, 49, 32, 1);
+    let flags = is_byte(r, 118, 0, 1) & is_byte(r, 119, 0, 1);
+    front & (names & (is_two(r, 116, 1, 65535) & (flags & is_blank(r, 128, 128))))
+}
+
+fn fits_puk(r: &[u8]) -> bool
+    ensures { λ b. ⌜ b ≡ fits pukFields 0 (now (r .entry)) ⌝ }
+{
+    let front = is_byte(r, 0, 2, 2) & (is_byte(r, 1, 0, 3) & is_blank(r, 12, 4));
+    front & (is_ident(r, 16, 32, 1) & (is_text(r, 49, 16, 1) & is_blank(r, 66, 190)))
+}
+
+fn fits_policy(r: &[u8]) -> bool
+    ensures { λ b. ⌜ b ≡ fits policyFields 0 (now (r .entry)) ⌝ }
+{
+    let front = is_byte(r, 0, 3, 3)
+        & (is_byte(r, 1, 0, 3) & (is_byte(r, 2, 1, 255) & is_byte(r, 3, 0, 1)));
+    let flags = is_byte(r, 49, 0, 1) & (is_byte(r, 50, 0, 1) & is_byte(r, 51, 0, 7));
+    let lengths = is_byte(r, 52, 1, 16) & is_byte(r, 53, 1, 16);
+    front & (is_ident(r, 16, 32, 1) & (flags & (lengths & is_blank(r, 54, 202))))
+}
+
+fn fits_key(r: &[u8]) -> bool
+    ensures { λ b. ⌜ b ≡ fits keyFields 0 (now (r .entry)) ⌝ }
+{
+    let front = is_byte(r, 0, 4, 4) & (is_byte(r, 1, 0, 1) & is_byte(r, 3, 0, 3));
+    let texts = is_ident(r, 16, 32, 1) & (is_text(r, 49, 16, 0) & is_blank(r, 66, 16));
+    let public = is_text(r, 82, 96, 1) & is_byte(r, 211, 0, 1);
+    front & (texts & (public & (is_byte(r, 212, 0, 3) & is_blank(r, 214, 42))))
+}
+
+fn fits_pending(r: &[u8]) -> bool
+    ensures { λ b. ⌜ b ≡ fits pendingFields 0 (now (r .entry)) ⌝ }
+{
+    let front = is_byte(r, 0, 5, 5)
+        & (is_byte(r, 1, 50, 51) & (is_byte(r, 2, 0, 1) & is_blank(r, 3, 1)));
+    front & is_blank(r, 16, 240)
+}
+
+fn fits_counter(r: &[u8]) -> bool
+    ensures { λ b. ⌜ b ≡ fits counterFields 0 (now (r .entry)) ⌝ }
+{
+    is_byte(r, 0, 6, 6) & (is_blank(r, 1, 3) & (is_four(r, 4, 1, 65536) & is_blank(r, 8, 248)))
+}
+
+// A free record's fields; no other kind has any other.
+fn fits_free(r: &[u8]) -> bool
+    ensures { λ b. ⌜ b ≡ fits (fieldsOf 0) 0 (now (r .entry)) ⌝ }
+{
+    is_byte(r, 0, 0, 0) & is_blank(r, 1, 255)
+}
+
+fn fits_kind(r: &[u8], k: u8) -> bool
+    ensures { λ b. ⌜ b ≡ fits (fieldsOf k) 0 (now (r .entry)) ⌝ }
+{
+    if k == 1 {
+        return fits_session(r);
+    }
+    if k == 2 {
+        return fits_puk(r);
+    }
+    if k == 3 {
+        return fits_policy(r);
+    }
+    if k == 4 {
+        return fits_key(r);
+    }
+    if k == 5 {
+        return fits_pending(r);
+    }
+    if k == 6 {
+        return fits_counter(r);
+    }
+    fits_free(r)
+}
+
+// Whether a record obeys the table.
+pub fn obeys(r: &[u8]) -> bool
+    ensures { λ b. ⌜ b ≡ obeysTable (now (r .entry)) ⌝ }
+{
+    if r.len() != 256 {
+        return false;
+    }
+    fits_kind(r, byte_at(r, 0))
+}

@@ -1,0 +1,35 @@
+-- Only of a key under the policy; then a comparison.
+use borrow.Author.Needs.{needs}
+use borrow.Author.Tests.{not-false, not-true}
+use mathlib.Core.Path.{_∙_, sym}
+use Rattle.kin.proofs.has_pin.Statement.{statement}
+use Rattle.kin.proofs.has_pin.Tie as tie
+
+is-governed-requires : tie.Need-is-governed-requires
+is-governed-requires c κs = search needs
+
+returns : tie.Need-returns
+returns c = rw (sym (c .before .is-governed .ensures) ∙ not-true _ (c .if1 .taken))
+
+part-of-requires : tie.Need-part-of-requires
+part-of-requires c κs = search needs
+
+part-of-requires-2 : tie.Need-part-of-requires-2
+part-of-requires-2 c κs = search needs
+
+is-same-requires : tie.Need-is-same-requires
+is-same-requires c κs = search needs
+
+returns-2 : tie.Need-returns-2
+returns-2 c = rw (sym (c .before .before .before .before .is-governed .ensures) ∙ not-false _ (c .before .before .before .if1 .left), c .is-same .ensures, c .before .before .part-of .ensures, c .before .part-of2 .ensures)
+
+pub has-pin-spec : {M : Type 1} → statement M
+has-pin-spec =
+    tie.close
+    (tie.spec
+    is-governed-requires
+    returns
+    part-of-requires
+    part-of-requires-2
+    is-same-requires
+    returns-2)

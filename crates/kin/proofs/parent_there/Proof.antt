@@ -1,0 +1,39 @@
+-- Only of that kind, and of one with a parent; then a look-up.
+use borrow.Author.Needs.{needs}
+use borrow.Author.Tests.{eq-eqb, ne-eqb}
+use mathlib.Core.Path.{_∙_, sym}
+use Rattle.kin.proofs.parent_there.Statement.{statement}
+use Rattle.kin.proofs.parent_there.Tie as tie
+
+byte-at-requires : tie.Need-byte-at-requires
+byte-at-requires c κs = search needs
+
+returns : tie.Need-returns
+returns c = rw (← c .before .byte-at .ensures, ne-eqb _ _ (c .if1 .taken))
+
+four-at-requires : tie.Need-four-at-requires
+four-at-requires c κs = search needs
+
+returns-2 : tie.Need-returns-2
+returns-2 c = rw (← c .before .before .before .byte-at .ensures, eq-eqb _ _ (c .before .before .if1 .left), sym (c .before .four-at .ensures) ∙ c .if2 .taken)
+
+four-at-requires-2 : tie.Need-four-at-requires-2
+four-at-requires-2 c κs = search needs
+
+is-there-requires : tie.Need-is-there-requires
+is-there-requires c κs = search needs
+
+returns-3 : tie.Need-returns-3
+returns-3 c = rw (← c .before .before .before .before .before .byte-at .ensures, eq-eqb _ _ (c .before .before .before .before .if1 .left), ← c .before .before .before .four-at .ensures, ne-eqb _ _ (c .before .before .if2 .left), ← c .before .four-at2 .ensures) (c .is-there .ensures)
+
+pub parent-there-spec : {M : Type 1} → statement M
+parent-there-spec =
+    tie.close
+    (tie.spec
+    byte-at-requires
+    returns
+    four-at-requires
+    returns-2
+    four-at-requires-2
+    is-there-requires
+    returns-3)

@@ -1,0 +1,36 @@
+-- Piece by piece the data is taken, and each piece is the call's field.
+use mathlib.Core.Path.{_∙_}
+use borrow.Author.Needs.{needs}
+use Rattle.paper.specs.Mac.{macUnder}
+use Rattle.mac.proofs.attested_close.Statement.{statement}
+use Rattle.mac.proofs.attested_close.Tie as tie
+
+begun-attestation-requires : tie.Need-begun-attestation-requires
+begun-attestation-requires c κs = search needs
+
+string-at-requires : tie.Need-string-at-requires
+string-at-requires c κs = search needs
+
+with-string-requires : tie.Need-with-string-requires
+with-string-requires c κs = search needs
+
+finish-requires : tie.Need-finish-requires
+finish-requires c κs = search needs
+
+returns : tie.Need-returns
+unfolding macUnder
+returns c =
+    let begun-attestation = c .before .before .before .begun-attestation in
+    let string-at = c .before .before .string-at in
+    let with-string = c .before .with-string in
+    c .finish .ensures _ _ (with-string .ensures _ _ (begun-attestation .ensures)) ∙ rw (string-at .ensures)
+
+pub attested-close-spec : {M : Type 1} → statement M
+attested-close-spec =
+    tie.close
+    (tie.spec
+    begun-attestation-requires
+    string-at-requires
+    with-string-requires
+    finish-requires
+    returns)

@@ -1,0 +1,46 @@
+-- The kinds first; the rest is the statement, written as a test.
+use borrow.Author.Needs.{needs}
+use borrow.Author.Tests.{eq-eqb, ne-eqb}
+use Rattle.pairs.proofs.is_governed.Statement.{statement}
+use Rattle.pairs.proofs.is_governed.Tie as tie
+
+byte-at-requires : tie.Need-byte-at-requires
+byte-at-requires c κs = search needs
+
+returns : tie.Need-returns
+returns c = rw (← c .before .byte-at .ensures, ne-eqb _ _ (c .if1 .taken))
+
+byte-at-requires-2 : tie.Need-byte-at-requires-2
+byte-at-requires-2 c κs = search needs
+
+returns-2 : tie.Need-returns-2
+returns-2 c = rw (← c .before .before .before .byte-at .ensures, eq-eqb _ _ (c .before .before .if1 .left), ← c .before .byte-at2 .ensures, ne-eqb _ _ (c .if2 .taken))
+
+four-at-requires : tie.Need-four-at-requires
+four-at-requires c κs = search needs
+
+four-at-requires-2 : tie.Need-four-at-requires-2
+four-at-requires-2 c κs = search needs
+
+four-at-requires-3 : tie.Need-four-at-requires-3
+four-at-requires-3 c κs = search needs
+
+four-at-requires-4 : tie.Need-four-at-requires-4
+four-at-requires-4 c κs = search needs
+
+returns-3 : tie.Need-returns-3
+returns-3 c = rw (← c .before .before .before .before .before .before .before .byte-at .ensures, eq-eqb _ _ (c .before .before .before .before .before .before .if1 .left), ← c .before .before .before .before .before .byte-at2 .ensures, eq-eqb _ _ (c .before .before .before .before .if2 .left), c .before .before .before .four-at .ensures, c .before .before .four-at2 .ensures, c .before .four-at3 .ensures, c .four-at4 .ensures)
+
+pub is-governed-spec : {M : Type 1} → statement M
+is-governed-spec =
+    tie.close
+    (tie.spec
+    byte-at-requires
+    returns
+    byte-at-requires-2
+    returns-2
+    four-at-requires
+    four-at-requires-2
+    four-at-requires-3
+    four-at-requires-4
+    returns-3)

@@ -1,0 +1,31 @@
+-- Each set has its own test.
+use Rattle.paper.specs.Closing.{holds}
+use borrow.Author.Needs.{needs}
+use Rattle.plans.proofs.is_in.Statement.{statement}
+use Rattle.plans.proofs.is_in.Tie as tie
+
+enum-told : tie.Need-enum-told
+enum-told c = search needs
+
+enum-known-ks : tie.Need-enum-known-ks
+enum-known-ks c = search needs
+
+enum-known-ks-2 : tie.Need-enum-known-ks-2
+enum-known-ks-2 c = search needs
+
+holds-requires : tie.Need-holds-requires
+holds-requires c κs = search needs
+
+returns : tie.Need-returns
+returns c = rw (c .enum-told .given .1)
+
+returns-2 : tie.Need-returns-2
+returns-2 c = rw (c .before .ks .given .1)
+
+returns-3 : tie.Need-returns-3
+returns-3 c = rw (c .before .before .ks2 .given .1) (c .holds .ensures)
+
+pub is-in-spec : {M : Type 1} → statement M
+is-in-spec =
+    tie.close
+    (tie.spec enum-told enum-known-ks enum-known-ks-2 holds-requires returns returns-2 returns-3)

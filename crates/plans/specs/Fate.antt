@@ -1,0 +1,29 @@
+-- What becomes of a record where keys are removed and unlocked, as a number: it stays, is freed, its count at byte 2 or 3 becomes 0,
+-- or it is marked stale. The order is that of the paper's `effect`.
+use mathlib.Core.Bool.{cond}
+use mathlib.Core.List.{List}
+use Prim.Native.Nat.{ℕ}
+use Rattle.paper.specs.Form.{Rec, _or_, test}
+use Rattle.paper.specs.Closing.{Keys, goes, keyUnlocked, pukUnlocked, pendingOn}
+
+abbrev pub STAYS : ℕ
+STAYS = 0
+
+abbrev pub FREED : ℕ
+FREED = 1
+
+abbrev pub KEY_CLEARED : ℕ
+KEY_CLEARED = 2
+
+abbrev pub PUK_CLEARED : ℕ
+PUK_CLEARED = 3
+
+abbrev pub MADE_STALE : ℕ
+MADE_STALE = 4
+
+unfoldable pub fate : Keys → Keys → List Rec → Rec → ℕ
+fate d u rs r =
+    cond (test (goes d rs r)) FREED
+    (cond (test (keyUnlocked u r)) KEY_CLEARED
+    (cond (test (pukUnlocked u rs r)) PUK_CLEARED
+    (cond (test (pendingOn d r or pendingOn u r)) MADE_STALE STAYS)))

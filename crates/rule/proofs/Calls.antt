@@ -1,0 +1,415 @@
+-- Every call leaves of session a what Turns.antt says: the session calls, a new session, and the user calls.
+use mathlib.Core.Path.{_≡_, refl, sym, ap, _∙_, subst}
+use mathlib.Core.Bool.{cond}
+use mathlib.Core.List.{List, [], _∷_, map, List·Memᴰ, Memᴰ·of-map}
+use mathlib.Core.Option.{Option, none, some as just}
+use mathlib.Core.Logic.{_⊎_, inl, inr}
+use Prim.Native.Nat.{ℕ, _+_, _*_, _≤_, _<_}
+use native.Mathlib.Omega.{arith}
+use lib.ListN.{length}
+use lib.Dec.{eqb, lit≤, lit<}
+use Rattle.paper.specs.Limits.{longestId, longestPin, keyBytes}
+use Rattle.paper.specs.Bytes.{enc2, enc4, over, padded, zerosOf, behind}
+use Rattle.paper.specs.Form.{Rec, Form, _==_, _=<_, no, _and_, some, Fact, only}
+use Rattle.paper.specs.Records.{kind, SESSION, KEY, PENDING, COUNTER, OPEN, own, session, parent, bears, nextSession, retryLimit, deleteProtection, zeros, insert, block, at, handle}
+use Rattle.paper.specs.Closing.{stale, closing, Keys, effect, holds, one, none as noKeys}
+use Rattle.paper.specs.Pin.{Verdict, locked, wrong, right, clear, addOne, theKey, thePuk, pinMissed, pinHit, pukMissed, pukHit, pinCheck, pukCheck}
+use Rattle.paper.specs.Calls.{method, subject, isSessionCall, post, Create, create, createForm, timesAt, typed, typedNew, serverAt}
+use Rattle.paper.specs.Act.{Out, plain, Act, refuse, inside, close, perform, wiped, placed, fitsIn, noAttestation}
+use Rattle.paper.specs.Posting.{look, target}
+use Rattle.paper.specs.Sessions.{counter, createFaults, createSession, counted, sessionRecord, given}
+use Rattle.paper.specs.Users.{policyOf, pukOf, tried, removed, unlocked, deleteFaults, deleteKey, unlockFaults, unlockKey, changeFaults, givenPin, newPin, changed, changePin, useFaults, useKey}
+use Rattle.paper.specs.Answer.{sessionAct, sessionStep, userStep, step, isOpen}
+use Rattle.paper.proofs.Forms.{cases, settled}
+use Rattle.laws.proofs.Choice.{holds as holds′, choose, chosen, only-is, only-out}
+use Rattle.laws.proofs.Bytes.{length-part, length-over, byte-over-other, four-over-other}
+use Rattle.laws.proofs.Places.{Same, from, four-kept}
+use Rattle.laws.proofs.Edits.{clear-same, add-same, shut-same, shut-state, onward-same, onward-next}
+use Rattle.laws.proofs.Lists.{map-all, sought}
+use Rattle.laws.proofs.Inserting.{byte-zeros, length-zeros}
+use Rattle.laws.proofs.Stores.{Whole}
+use Rattle.laws.proofs.Facts.{Facts}
+use Rattle.rule.proofs.Newborn.{newly, newly-kind, newly-own, length-flat, total, length-zerosOf, length-kept}
+use Rattle.rule.proofs.Seats.{counter-most}
+use Rattle.rule.proofs.Tame.{Mild, Born, Tame, Asking, tame}
+use Rattle.rule.proofs.Shutting.{struck, closing-is, closing-out, sealed-is, shut-kind, shut-session}
+use Rattle.rule.proofs.Turns.{live, Below, Turn, turn-then, turn-refl, turn-shut, turn-map, turn-insert, turn-harmless, Harmless, same, staled, turned, freed, Gentle, gentle-of, same-turned, effect-harmless}
+
+module _ (a : ℕ) (rs : List Rec) (w : Whole rs) (b : Below a rs) where
+  -- ---- session calls
+
+  dead : (Fact (live a zeros) → ⊥)
+  dead p = let i = p .0 .0 in let j = byte-zeros 0 in omega arith
+
+  turn-wiped : (s : ℕ) → Turn a rs (map (only (bears s) (λ r. zeros)) rs)
+  turn-wiped s = cases (s == a)
+      (λ e. turn-shut a rs (map f rs) (map-all (λ y. length y ≡ 256) f rs long) (map-all (λ y. kind y ≡ COUNTER → a < nextSession y * 65536) f rs below) (λ v.
+      let o = Memᴰ·of-map f rs (v .1) in gone e (o .0) (subst (λ y. Fact (live a y)) (sym (o .2)) (v .2))))
+      (λ n. turn-map a f rs w b (record { long = long; counter = count; opens = opens; pending = λ x m k e. inl (only-out (bears s) (λ r. zeros) x (λ i. n (sym i ∙ e))) }))
+    where
+      f : Rec → Rec
+      f = only (bears s) (λ r. zeros)
+
+      long : (x : Rec) → List·Memᴰ x rs → length (f x) ≡ 256
+      long x m = only-is (λ y. length y ≡ 256) (bears s) (λ r. zeros) x (λ i. length-zeros) (λ n. w x m)
+
+      count : (x : Rec) → List·Memᴰ x rs → kind (f x) ≡ COUNTER → (kind x ≡ COUNTER) × (nextSession x ≤ nextSession (f x))
+      count x m = only-is (λ y. kind y ≡ COUNTER → (kind x ≡ COUNTER) × (nextSession x ≤ nextSession y)) (bears s) (λ r. zeros) x
+          (λ i k. absurd (let j = byte-zeros 0 in omega arith)) (λ n k. (k, omega arith))
+
+      below : (x : Rec) → List·Memᴰ x rs → kind (f x) ≡ COUNTER → a < nextSession (f x) * 65536
+      below x m k = let c = count x m k in more x (b x m (c .0)) (c .1)
+        where
+          more : (x : Rec) → a < nextSession x * 65536 → nextSession x ≤ nextSession (f x) → a < nextSession (f x) * 65536
+          more x p q = omega arith
+
+      opens : (x : Rec) → List·Memᴰ x rs → Fact (live a (f x)) → Fact (live a x)
+      opens x m = only-is (λ y. Fact (live a y) → Fact (live a x)) (bears s) (λ r. zeros) x (λ i p. absurd (dead p)) (λ n p. p)
+
+      gone : s ≡ a → (x : Rec) → Fact (live a (f x)) → ⊥
+      gone e x = only-is (λ y. Fact (live a y) → ⊥) (bears s) (λ r. zeros) x (λ i. dead) (λ n p. n (p .0 .1 .1 ∙ sym e))
+
+  turn-mild : (s : ℕ) (g : Rec → Rec) → ((x : Rec) → Mild x (g x)) → Turn a rs (map (only (bears s) g) rs)
+  turn-mild s g h = turn-map a (only (bears s) g) rs w b
+      (record {
+        long = λ x m. only-is (λ y. length y ≡ 256) (bears s) g x (λ i. h x .long ∙ w x m) (λ n. w x m);
+        counter = λ x m. only-is (λ y. kind y ≡ COUNTER → (kind x ≡ COUNTER) × (nextSession x ≤ nextSession y)) (bears s) g x (λ i k. counts x k) (λ n k. (k, omega arith));
+        opens = λ x m. only-is (λ y. Fact (live a y) → Fact (live a x)) (bears s) g x (λ i p. opens x p) (λ n p. p);
+        pending = λ x m k e. only-is (λ y. (y ≡ x) ⊎ (y ≡ stale x)) (bears s) g x (λ i. inl (h x .others (λ z. omega arith) (λ z. omega arith))) (λ n. inl refl);
+      })
+    where
+      counts : (x : Rec) → kind (g x) ≡ COUNTER → (kind x ≡ COUNTER) × (nextSession x ≤ nextSession (g x))
+      counts x k =
+          let i = sym (h x .kind=) ∙ k in
+          (i, rw (h x .others (λ z. omega arith) (λ z. omega arith)) (omega arith))
+
+      opens : (x : Rec) → Fact (live a (g x)) → Fact (live a x)
+      opens x p =
+          let m = h x in
+          let k = sym (m .kind=) ∙ p .0 .0 in
+          ((k, (sym (m .own=) ∙ p .0 .1 .0, sym (m .session=) ∙ p .0 .1 .1)), sym (m .state= k) ∙ p .1)
+
+  turn-placed : (s : ℕ) (asks : ℕ → Type 0) (n : Option Rec) (rs′ : List Rec) → Born s asks n → Turn a rs rs′ → Turn a rs (placed n rs′)
+  turn-placed s asks none rs′ h t = t
+  turn-placed s asks (just n) rs′ h t = turn-then a rs rs′ (insert n rs′) t
+      (turn-insert a n rs′ (t .whole) (t .below) (h .long) (λ k. let m = h .most in omega arith) (λ p. let m = h .least in let k = p .0 .0 in omega arith))
+
+  -- a close
+  turn-closing : (s : ℕ) → Turn a rs (map (closing s rs) rs)
+  turn-closing s = cases (s == a)
+      (λ e. turn-shut a rs (map f rs) (map-all (λ y. length y ≡ 256) f rs long) (map-all (λ y. kind y ≡ COUNTER → a < nextSession y * 65536) f rs below) (λ v.
+      let o = Memᴰ·of-map f rs (v .1) in gone e (o .0) (o .1) (subst (λ y. Fact (live a y)) (sym (o .2)) (v .2))))
+      (λ n. turn-map a f rs w b (record { long = long; counter = count; opens = opens n; pending = λ x m k e. rw (closing-out s rs x (λ i. n (sym i ∙ e))) (pend x k (hurt x)) }))
+    where
+      f : Rec → Rec
+      f = closing s rs
+
+      hurt : (x : Rec) → Harmless x (struck s rs x)
+      hurt x = effect-harmless (holds s 50 rs) (holds s 51 rs) rs x
+
+      beyond : Gentle a (struck s rs) rs
+      beyond = gentle-of a (struck s rs) rs w (λ x m. hurt x)
+
+      long : (x : Rec) → List·Memᴰ x rs → length (f x) ≡ 256
+      long x m = closing-is s rs (λ y. length y ≡ 256) x
+          (λ e. sealed-is s rs (λ y. length y ≡ 256) x (λ k. length-zeros) (λ k h. shut-same x .long ∙ w x m) (λ k h. length-zeros) (λ i j. w x m))
+          (λ n. beyond .long x m)
+
+      Counts : Rec → Rec → Type 0
+      Counts x y = kind y ≡ COUNTER → (kind x ≡ COUNTER) × (nextSession x ≤ nextSession y)
+
+      free-counts : (x : Rec) → Counts x zeros
+      free-counts x k = absurd (let j = byte-zeros 0 in omega arith)
+
+      count : (x : Rec) → List·Memᴰ x rs → Counts x (f x)
+      count x m = closing-is s rs (Counts x) x
+          (λ e. sealed-is s rs (Counts x) x (λ k. free-counts x) (λ k h i. absurd (let j = shut-kind x in omega arith)) (λ k h. free-counts x) (λ i j k. (k, omega arith)))
+          (λ n. beyond .counter x m)
+
+      below : (x : Rec) → List·Memᴰ x rs → kind (f x) ≡ COUNTER → a < nextSession (f x) * 65536
+      below x m k = let c = count x m k in more x (b x m (c .0)) (c .1)
+        where
+          more : (x : Rec) → a < nextSession x * 65536 → nextSession x ≤ nextSession (f x) → a < nextSession (f x) * 65536
+          more x p q = omega arith
+
+      opens : (s ≡ a → ⊥) → (x : Rec) → List·Memᴰ x rs → Fact (live a (f x)) → Fact (live a x)
+      opens n x m = closing-is s rs (λ y. Fact (live a y) → Fact (live a x)) x
+          (λ e. sealed-is s rs (λ y. Fact (live a y) → Fact (live a x)) x (λ k p. absurd (dead p))
+          (λ k h p. absurd (n (sym e ∙ sym (shut-session x) ∙ p .0 .1 .1))) (λ k h p. absurd (dead p)) (λ i j p. p))
+          (λ i. beyond .opens x m)
+
+      pend : (x : Rec) → kind x ≡ PENDING → Harmless x (struck s rs x) → (struck s rs x ≡ x) ⊎ (struck s rs x ≡ stale x)
+      pend x k (same e) = inl e
+      pend x k (staled i e) = inr e
+      pend x k (turned u v i e q) = absurd (omega arith)
+      pend x k (freed n e) = absurd (n k)
+
+      gone : s ≡ a → (x : Rec) → List·Memᴰ x rs → Fact (live a (f x)) → ⊥
+      gone e x m = closing-is s rs (λ y. Fact (live a y) → ⊥) x
+          (λ i. sealed-is s rs (λ y. Fact (live a y) → ⊥) x (λ k. dead)
+          (λ k h p. let c = shut-state x (let l = w x m in omega arith) in let o = p .1 in omega arith) (λ k h. dead) (λ i j p. j (p .0 .0)))
+          (λ n p. n (beyond .opens x m p .0 .1 .1 ∙ sym e))
+
+  turn-perform : (s : ℕ) (asks : ℕ → Type 0) (act : Act) → Tame s asks act → Turn a rs (perform s act rs .store)
+  unfolding perform
+  turn-perform s asks (refuse n) t = turn-wiped s
+  turn-perform s asks (close t′) t = turn-closing s
+  turn-perform s asks (inside h t′ g new) t =
+      chosen (λ (o : Out). Turn a rs (o .store)) (fitsIn new rs) (record { status = 0; handle = h; attestation = t′; store = placed new (map (only (bears s) g) rs) }) (wiped s 2 rs)
+      (λ e. go t) (λ e. turn-wiped s)
+    where
+      go : (((x : Rec) → g x ≡ zeros) × (new ≡ none)) ⊎ (((x : Rec) → Mild x (g x)) × Born s asks new) → Turn a rs (placed new (map (only (bears s) g) rs))
+      go (inl (z, n)) = rw n (subst (λ (f : Rec → Rec). Turn a rs (map (only (bears s) f) rs)) (λ i x. sym (z x) i) (turn-wiped s))
+      go (inr (m, n)) = turn-placed s asks new (map (only (bears s) g) rs) n (turn-mild s g m)
+
+  turn-session : (c chip : List ℕ) → Facts rs → Fact (isOpen (subject c) rs) → Fact (isSessionCall c) → Turn a rs (sessionStep c chip rs .store)
+  unfolding sessionStep
+  turn-session c chip F o i = turn-perform (subject c) (Asking c chip) (sessionAct c chip (block (subject c) rs) (look (post c chip .key) rs)) (tame c chip rs F o i)
+
+  -- ---- a new session
+
+  turn-create : (c chip : List ℕ) → Facts rs → Turn a rs (createSession c chip rs .store)
+  unfolding createSession
+  turn-create c chip F = settled (λ (o : Out). Turn a rs (o .store)) (createFaults c chip q rs) (λ n. plain n rs)
+      (record { status = 0; handle = h; attestation = noAttestation; store = insert (sessionRecord h q) (map counted rs) })
+      (λ n. turn-refl a rs w b) (λ f. made (holds′ (createForm c chip) (f .0)) (holds′ (nextSession (counter rs) =< 65535) (f .1 .1 .1 .1 .0)))
+    where
+      q : Create
+      q = create c chip
+
+      h : ℕ
+      h = handle (nextSession (counter rs)) 0
+
+      c-there : List·Memᴰ (counter rs) rs × (kind (counter rs) ≡ COUNTER)
+      c-there = sought (λ r. kind r == COUNTER) rs (F .counter)
+
+      Moves : Rec → Rec → Type 0
+      Moves x y = (length y ≡ 256) × (kind y ≡ kind x) × (kind x ≡ COUNTER → nextSession x ≤ nextSession y) × ((kind x ≡ COUNTER → ⊥) → y ≡ x)
+
+      moves : (x : Rec) → List·Memᴰ x rs → Moves x (counted x)
+      moves x m = unfold counted in only-is (Moves x) (λ r. kind r == COUNTER) (λ r. over 4 (enc4 (nextSession r + 1)) r) x
+          (λ k. let o = onward-same x in (
+            o .long ∙ w x m,
+            o .at 0 refl,
+            (λ i. rw (onward-next x (let l = w x m in omega arith) (let l = counter-most rs F x m k in omega arith)) (omega arith)),
+            λ n. absurd (n k),
+          ))
+          (λ n. (w x m, refl, (λ k. absurd (n k)), λ n. refl))
+
+      ticked : Turn a rs (map counted rs)
+      ticked = turn-map a counted rs w b
+          (record {
+            long = λ x m. moves x m .0;
+            counter = λ x m k. let e = moves x m in (sym (e .1) ∙ k, e .2 (sym (e .1) ∙ k));
+            opens = λ x m p. subst (λ y. Fact (live a y)) (moves x m .3 (λ k. let e = moves x m .1 in let i = p .0 .0 in omega arith)) p;
+            pending = λ x m k e. inl (moves x m .3 (λ i. omega arith));
+          })
+
+      rest : List (List ℕ)
+      rest = padded longestId (q .server) ∷ padded longestId (q .client) ∷ q .key ∷ enc2 0 ∷ enc2 (q .limit) ∷ (q .privacy ∷ []) ∷ (given (q .management) ∷ []) ∷ q .times ∷ zerosOf 128 ∷ []
+
+      is-newly : sessionRecord h q ≡ newly SESSION OPEN 0 1 h h 0 rest
+      is-newly = unfold sessionRecord in refl
+
+      long-enough : Fact (createForm c chip) → total rest ≡ 240
+      long-enough f =
+          let a = length-kept (serverAt c) longestId c (f .1 .0 .0 .1) in
+          let b = length-kept keyBytes longestId chip (f .1 .1 .1 .1 .1 .1 .0 .0 .1) in
+          let d = length-part 0 keyBytes chip (chip-long (f .1 .1 .1 .1 .1 .1 .1)) in
+          let e = length-part (timesAt c) 8 c (let x = f .1 .1 .1 .1 .1 .0 in omega arith) in
+          let z = length-zerosOf 128 in
+          omega arith
+        where
+          chip-long : behind keyBytes chip ≡ length chip → 0 + keyBytes ≤ length chip
+          chip-long e = unfold behind in omega arith
+
+      made : Fact (createForm c chip) → nextSession (counter rs) ≤ 65535 → Turn a rs (insert (sessionRecord h q) (map counted rs))
+      made f l =
+          let t = ticked in
+          let below = b (counter rs) (c-there .0) (c-there .1) in
+          turn-then a rs (map counted rs) (insert (sessionRecord h q) (map counted rs)) t
+          (rw is-newly (turn-insert a (newly SESSION OPEN 0 1 h h 0 rest) (map counted rs) (t .whole) (t .below) (let x = length-flat rest in let y = long-enough f in omega arith)
+          (λ k. let i = newly-kind SESSION OPEN 0 1 h h 0 rest in omega arith)
+          (λ p. let o = newly-own SESSION OPEN 0 1 h h 0 rest (omega arith) in let e = p .0 .1 .0 in omega arith)))
+
+  -- ---- user calls
+
+  turn-edit : (f : Rec → Rec) → ((x : Rec) → Harmless x (f x)) → Turn a rs (map f rs)
+  turn-edit f h = turn-harmless a f rs w b (λ x m. h x)
+
+  turn-effect : (d u : Keys) (rs′ : List Rec) → Turn a rs rs′ → Turn a rs (map (effect d u rs′) rs′)
+  turn-effect d u rs′ t = turn-then a rs rs′ (map (effect d u rs′) rs′) t (turn-harmless a (effect d u rs′) rs′ (t .whole) (t .below) (λ x m. effect-harmless d u rs′ x))
+
+  -- an edit of keys, or of PUKs, in one byte
+  at-key : (key : Rec) (e : Rec → Rec) → ((x : Rec) → Same (from 2 1) x (e x)) → (x : Rec) → Harmless x (only (theKey key) e x)
+  at-key key e h x = only-is (Harmless x) (theKey key) e x (λ i. same-turned (from 2 1) x (e x) (h x) refl refl (let k = i .0 in omega arith) (let k = i .0 in omega arith)) (λ n. same refl)
+
+  harm-pinMissed : (key x : Rec) → Harmless x (pinMissed key x)
+  unfolding pinMissed
+  harm-pinMissed key x = at-key key (addOne 2) (add-same 2) x
+
+  harm-pinHit : (key x : Rec) → Harmless x (pinHit key x)
+  unfolding pinHit
+  harm-pinHit key x = at-key key (clear 2) (clear-same 2) x
+
+  harm-pukMissed : (puk x : Rec) → Harmless x (pukMissed puk x)
+  unfolding pukMissed
+  harm-pukMissed puk x = only-is (Harmless x) (λ r. thePuk puk r and no (retryLimit r == 0)) (addOne 3) x
+      (λ i. same-turned (from 3 1) x (addOne 3 x) (add-same 3 x) refl refl (let k = i .0 .0 in omega arith) (let k = i .0 .0 in omega arith)) (λ n. same refl)
+
+  harm-pukHit : (puk x : Rec) → Harmless x (pukHit puk x)
+  unfolding pukHit
+  harm-pukHit puk x = only-is (Harmless x) (thePuk puk) (clear 3) x
+      (λ i. same-turned (from 3 1) x (clear 3 x) (clear-same 3 x) refl refl (let k = i .0 in omega arith) (let k = i .0 in omega arith)) (λ n. same refl)
+
+  turn-tried : (v : Verdict) (missed done : List Rec) → Turn a rs missed → Turn a rs done → Turn a rs (tried v rs missed done .store)
+  turn-tried locked missed done t u = turn-refl a rs w b
+  turn-tried wrong missed done t u = t
+  turn-tried right missed done t u = u
+
+  turn-delete : (c chip : List ℕ) → Turn a rs (deleteKey c chip rs .store)
+  unfolding deleteKey
+  turn-delete c chip = settled Out-turn (deleteFaults c chip x rs) (λ n. plain n rs)
+      (cond (eqb (deleteProtection x) 0) (plain 0 (removed k rs)) (cond (eqb (deleteProtection x) 1) by-pin by-puk))
+      (λ n. turn-refl a rs w b) (λ f.
+      chosen Out-turn (eqb (deleteProtection x) 0) (plain 0 (removed k rs)) (cond (eqb (deleteProtection x) 1) by-pin by-puk) (λ e. gone) (λ e.
+      chosen Out-turn (eqb (deleteProtection x) 1) by-pin by-puk
+      (λ e. turn-tried (pinCheck pol x (typed c)) (map (pinMissed x) rs) (removed k rs) (turn-edit (pinMissed x) (harm-pinMissed x)) gone)
+      (λ e. turn-tried (pukCheck puk (typed c)) (map (pukMissed puk) rs) (removed k (map (pukHit puk) rs)) (turn-edit (pukMissed puk) (harm-pukMissed puk))
+      (turn-effect (one k) noKeys (map (pukHit puk) rs) (turn-edit (pukHit puk) (harm-pukHit puk))))))
+    where
+      Out-turn : Out → Type 0
+      Out-turn o = Turn a rs (o .store)
+
+      k : ℕ
+      k = subject c
+
+      x : Rec
+      x = target k rs
+
+      pol : Rec
+      pol = policyOf x rs
+
+      puk : Rec
+      puk = pukOf pol rs
+
+      by-pin : Out
+      by-pin = tried (pinCheck pol x (typed c)) rs (map (pinMissed x) rs) (removed k rs)
+
+      by-puk : Out
+      by-puk = tried (pukCheck puk (typed c)) rs (map (pukMissed puk) rs) (removed k (map (pukHit puk) rs))
+
+      gone : Turn a rs (removed k rs)
+      gone = turn-effect (one k) noKeys rs (turn-refl a rs w b)
+
+  turn-unlock : (c chip : List ℕ) → Turn a rs (unlockKey c chip rs .store)
+  unfolding unlockKey
+  turn-unlock c chip = settled (λ (o : Out). Turn a rs (o .store)) (unlockFaults c chip x pol puk rs) (λ n. plain n rs)
+      (tried (pukCheck puk (typed c)) rs (map (pukMissed puk) rs) (unlocked k rs)) (λ n. turn-refl a rs w b)
+      (λ f. turn-tried (pukCheck puk (typed c)) (map (pukMissed puk) rs) (unlocked k rs) (turn-edit (pukMissed puk) (harm-pukMissed puk)) (turn-effect noKeys (one k) rs (turn-refl a rs w b)))
+    where
+      k : ℕ
+      k = subject c
+
+      x : Rec
+      x = target k rs
+
+      pol : Rec
+      pol = policyOf x rs
+
+      puk : Rec
+      puk = pukOf pol rs
+
+  -- a new PIN, the count cleared, pendings marked
+  Keyed : Rec → Rec → Type 0
+  Keyed x y = (y ≡ x) ⊎ ((kind x ≡ KEY) × (kind y ≡ KEY) × (length y ≡ length x) × (session y ≡ session x))
+
+  keyed-pin : (key pol : Rec) (v : List ℕ) (x : Rec) → Keyed x (only (givenPin key pol) (newPin v) x)
+  unfolding Keyed newPin
+  keyed-pin key pol v x = only-is (Keyed x) (givenPin key pol) (newPin v) x (λ g. let k = is-key g in inr
+      (k, byte-over-other 49 0 (padded longestPin v) x (inr (lit< tt)) ∙ k, length-over 49 (padded longestPin v) x, four-over-other 49 8 (padded longestPin v) x (inr (lit≤ tt)))) (λ n. inl refl)
+    where
+      is-key : Fact (givenPin key pol x) → kind x ≡ KEY
+      is-key (inl i) = i .0
+      is-key (inr i) = i .1 .1 .0
+
+  keyed-hit : (key x y : Rec) → Keyed x y → Keyed x (pinHit key y)
+  unfolding Keyed pinHit
+  keyed-hit key x y h = only-is (Keyed x) (theKey key) (clear 2) y (λ i. inr (go (i .0) h)) (λ n. h)
+    where
+      s : Same (from 2 1) y (clear 2 y)
+      s = clear-same 2 y
+
+      kept : session (clear 2 y) ≡ session y
+      kept = four-kept (from 2 1) y (clear 2 y) s 8 refl
+
+      go : kind y ≡ KEY → Keyed x y → (kind x ≡ KEY) × (kind (clear 2 y) ≡ KEY) × (length (clear 2 y) ≡ length x) × (session (clear 2 y) ≡ session x)
+      go k (inl e) = (sym (ap kind e) ∙ k, s .at 0 refl ∙ k, s .long ∙ ap length e, kept ∙ ap session e)
+      go k (inr (p, q, l, r)) = (p, s .at 0 refl ∙ q, s .long ∙ l, kept ∙ r)
+
+  harm-changed : (key pol : Rec) (v : List ℕ) (x : Rec) → Harmless x (changed key pol v rs x)
+  unfolding changed Keyed
+  harm-changed key pol v x = only-is (Harmless x) stalely stale y (λ p. marks keyed (p .0)) (λ n. stays keyed)
+    where
+      stalely : Rec → Form
+      stalely q = kind q == PENDING and some rs (λ z. givenPin key pol z and own z == parent q)
+
+      y : Rec
+      y = pinHit key (only (givenPin key pol) (newPin v) x)
+
+      keyed : Keyed x y
+      keyed = keyed-hit key x (only (givenPin key pol) (newPin v) x) (keyed-pin key pol v x)
+
+      stays : Keyed x y → Harmless x y
+      stays (inl e) = same e
+      stays (inr (p, q, l, r)) = turned (omega arith) (omega arith) (q ∙ sym p) l r
+
+      marks : Keyed x y → kind y ≡ PENDING → Harmless x (stale y)
+      marks (inl e) k = rw e (staled (sym (ap kind e) ∙ k) refl)
+      marks (inr (p, q, l, r)) k = absurd (omega arith)
+
+  turn-change : (c chip : List ℕ) → Turn a rs (changePin c chip rs .store)
+  unfolding changePin
+  turn-change c chip = settled (λ (o : Out). Turn a rs (o .store)) (changeFaults c chip x pol rs) (λ n. plain n rs)
+      (tried (pinCheck pol x (typed c)) rs (map (pinMissed x) rs) (map (changed x pol (typedNew c) rs) rs)) (λ n. turn-refl a rs w b)
+      (λ f. turn-tried (pinCheck pol x (typed c)) (map (pinMissed x) rs) (map (changed x pol (typedNew c) rs) rs) (turn-edit (pinMissed x) (harm-pinMissed x))
+      (turn-edit (changed x pol (typedNew c) rs) (harm-changed x pol (typedNew c))))
+    where
+      x : Rec
+      x = target (subject c) rs
+
+      pol : Rec
+      pol = policyOf x rs
+
+  turn-use : (c chip : List ℕ) → Turn a rs (useKey c chip rs .store)
+  unfolding useKey
+  turn-use c chip = settled (λ (o : Out). Turn a rs (o .store)) (useFaults c chip x pol rs) (λ n. plain n rs)
+      (cond (eqb (parent x) 0) (plain 0 rs) by-pin) (λ n. turn-refl a rs w b)
+      (λ f. chosen (λ (o : Out). Turn a rs (o .store)) (eqb (parent x) 0) (plain 0 rs) by-pin (λ e. turn-refl a rs w b) (λ e.
+      turn-tried (pinCheck pol x (typed c)) (map (pinMissed x) rs) (map (pinHit x) rs) (turn-edit (pinMissed x) (harm-pinMissed x)) (turn-edit (pinHit x) (harm-pinHit x))))
+    where
+      x : Rec
+      x = target (subject c) rs
+
+      pol : Rec
+      pol = policyOf x rs
+
+      by-pin : Out
+      by-pin = tried (pinCheck pol x (typed c)) rs (map (pinMissed x) rs) (map (pinHit x) rs)
+
+  turn-user : (c chip : List ℕ) → Turn a rs (userStep c chip rs .store)
+  unfolding userStep
+  turn-user c chip =
+      chosen (λ (o : Out). Turn a rs (o .store)) (eqb (method c) 80) (deleteKey c chip rs)
+      (cond (eqb (method c) 82) (unlockKey c chip rs) (cond (eqb (method c) 83) (changePin c chip rs) (useKey c chip rs))) (λ e. turn-delete c chip) (λ e.
+      chosen (λ (o : Out). Turn a rs (o .store)) (eqb (method c) 82) (unlockKey c chip rs) (cond (eqb (method c) 83) (changePin c chip rs) (useKey c chip rs)) (λ e. turn-unlock c chip) (λ e.
+      chosen (λ (o : Out). Turn a rs (o .store)) (eqb (method c) 83) (changePin c chip rs) (useKey c chip rs) (λ e. turn-change c chip) (λ e. turn-use c chip)))
+
+  -- ---- every call
+
+  pub turn-step : (c chip : List ℕ) → Facts rs → (Fact (isSessionCall c) → Fact (isOpen (subject c) rs)) → Turn a rs (step c chip rs .store)
+  unfolding step
+  turn-step c chip F o =
+      choose (λ (o : Out). Turn a rs (o .store)) (isSessionCall c) (sessionStep c chip rs) (cond (eqb (method c) 2) (createSession c chip rs) (userStep c chip rs))
+      (λ i. turn-session c chip F (o i) i) (λ n.
+      chosen (λ (o : Out). Turn a rs (o .store)) (eqb (method c) 2) (createSession c chip rs) (userStep c chip rs) (λ e. turn-create c chip F) (λ e. turn-user c chip))
