@@ -144,7 +144,8 @@ def seen_through():
     return "\n".join(uses), " ".join(names)
 
 
-def write(name, title, story):
+def told(title, story):
+    """A story as antt text: its stores, calls and steps."""
     uses, names = seen_through()
     before, steps = story()
     text = HEAD.format(title=title, uses=uses)
@@ -155,7 +156,11 @@ def write(name, title, story):
         text += f'\nabbrev pub call-{i} : String\ncall-{i} = "{call.hex()}"\n'
         text += f'\npub step-{i} : answers store-{i - 1} call-{i}\n    "{chip.hex()}"\n    "{reply.hex()}"\n    store-{i}\n'
         text += f"unfolding {names}\nstep-{i} = refl\n"
-    open(os.path.join(CRATES, "worked", "proofs", name + ".antt"), "w", encoding="utf8").write(text)
+    return text
+
+
+def write(name, title, story):
+    open(os.path.join(CRATES, "worked", "proofs", name + ".antt"), "w", encoding="utf8").write(told(title, story))
 
 
 if __name__ == "__main__":

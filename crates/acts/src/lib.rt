@@ -3,6 +3,8 @@
 use edits::copy_of;
 use edits::put;
 use ladder::Reply;
+use ladder::both;
+use ladder::fault;
 use records::Choice;
 use records::bears;
 use records::is_that;
@@ -12,17 +14,18 @@ use slices::is_within;
 use slices::text_at;
 use slices::two_at;
 ghost use mathlib.Core.Path.{_≡_};
-ghost use mathlib.Core.List.{[], map};
+ghost use mathlib.Core.List.{[], _∷_, map};
 ghost use mathlib.Core.Option.{some as just};
 ghost use Prim.Native.Nat.{_≤_};
 ghost use lib.ListN.{getD, set};
 ghost use Rattle.paper.specs.Bytes.{enc2, over};
-ghost use Rattle.paper.specs.Form.{test};
+ghost use Rattle.paper.specs.Form.{test, _gives_};
 ghost use Rattle.paper.specs.Records.{records, at, block};
 ghost use Rattle.paper.specs.Act.{perform, moved as movedOn, advance as advanced, passesLimit, objectsUsedUp, fresh as freshHandle};
 ghost use Rattle.paper.specs.Act as act;
-ghost use Rattle.paper.specs.Objects.{taken};
+ghost use Rattle.paper.specs.Objects.{taken, notThere, differs};
 ghost use Rattle.records.specs.View.{Becomes};
+ghost use Rattle.ladder.specs.Rungs.{status};
 ghost use Rattle.ladder.specs.Answers.{Answers};
 ghost use Rattle.acts.specs.Names.{named};
 
@@ -79,6 +82,21 @@ pub fn is_taken(s: &[u8], t: u32, name: &[u8]) -> bool
         i += 1;
     }
     false
+}
+
+// Whether a handle is not 0 and what was found by it is of another kind.
+pub fn is_missing(found: &[u8], kind: u8, handle: u32) -> bool
+    ensures { λ r. ⌜ r ≡ test (notThere kind (now (found .entry)) handle) ⌝ }
+{
+    both(!(handle == 0), !records::is_kind(found, kind))
+}
+
+// The last that is asked of a call that makes an object: its MAC, of which every byte is looked at, and an object number.
+pub fn seal(ses: &[u8], given: &[u8], made: &[u8; 32]) -> u8
+    ensures { λ r. ⌜ r ≡ status ((differs (now (given .entry)) (now (made .entry)) gives 3) ∷ (objectsUsedUp (now (ses .entry)) gives 2) ∷ []) ⌝ }
+{
+    let n = fault(0, !hmac::is_same(given, made), 3);
+    fault(n, is_used_up(ses), 2)
 }
 
 fn with_two(mut r: [u8; 256], k: u8, n: usize) -> [u8; 256]

@@ -7,8 +7,9 @@ use native.Mathlib.Numerals.{add-one}
 use lib.ListN.{length, getD, set, take, replicate, length-append, length-replicate}
 use lib.Seq.{take-all, take-append-le, take-suc, set-at, append-snoc}
 use Rattle.paper.specs.Limits.{recordBytes}
-use Rattle.paper.specs.Bytes.{zerosOf}
+use Rattle.paper.specs.Bytes.{zerosOf, enc4}
 use Rattle.paper.specs.Form.{Rec, _=<_}
+use Rattle.paper.specs.Act.{flat}
 use Rattle.paper.proofs.Forms.{cases}
 use Rattle.build.specs.declared.Draft.{Draft}
 use Rattle.build.specs.Drafts.{laid, Drafts}
@@ -83,3 +84,20 @@ zeros-one (suc n) = ap (λ (z : List ℕ). 0 ∷ z) (zeros-one n)
 
 pub zero-more : (w : List ℕ) (i : ℕ) → (w ++ zerosOf i) ++ (0 ∷ []) ≡ w ++ zerosOf (i + 1)
 zero-more w i = rw (append-assoc, add-one, zeros-one i)
+
+-- fields written one after another are the fields' bytes one after another
+abbrev pub grown : List ℕ → List (List ℕ) → List ℕ
+grown w [] = w
+grown w (v ∷ vs) = grown (w ++ v) vs
+
+grown-flat : (w : List ℕ) (vs : List (List ℕ)) → grown w vs ≡ w ++ flat vs
+grown-flat w [] = sym (append-nil w)
+grown-flat w (v ∷ vs) = grown-flat (w ++ v) vs ∙ append-assoc w v (flat vs)
+
+pub laid-grown : (w : List ℕ) (vs : List (List ℕ)) → laid (grown w vs) ≡ laid (w ++ flat vs)
+laid-grown w vs = ap laid (grown-flat w vs)
+
+-- the first fields, as `head` writes them
+abbrev pub headed : ℕ → ℕ → ℕ → ℕ → ℕ → ℕ → ℕ → List ℕ
+headed kind a b e own session parent =
+    flat ((kind ∷ []) ∷ (a ∷ []) ∷ (b ∷ []) ∷ (e ∷ []) ∷ enc4 own ∷ enc4 session ∷ enc4 parent ∷ [])

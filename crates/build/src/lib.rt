@@ -4,6 +4,7 @@ ghost use mathlib.Core.Path.{_≡_};
 ghost use mathlib.Core.List.{List, [], _∷_, _++_};
 ghost use Prim.Native.Nat.{ℕ, _-_};
 ghost use Rattle.paper.specs.Bytes.{enc2, enc4, zerosOf, padded as paddedTo};
+ghost use Rattle.paper.specs.Act.{flat};
 ghost use Rattle.build.specs.Drafts.{Drafts, laid};
 
 // A record under way: its bytes, and the place of the next. Only the functions here make one, so each holds the bytes it was given.
@@ -99,6 +100,14 @@ pub fn padded(d: Draft, longest: u8, v: &[u8]) -> Draft
     let a = byte(d, (n % 256) as u8);
     let b = bytes(a, v);
     zeros(b, left(longest, n))
+}
+
+// The first 16 bytes of a record that has handles: its kind, three bytes of its own, its handle, its session's and its parent's.
+pub fn head(kind: u8, a: u8, b: u8, e: u8, own: u64, session: u32, parent: u32) -> Draft
+    ensures { λ r. ⌜ Drafts r (flat ((kind ∷ []) ∷ (a ∷ []) ∷ (b ∷ []) ∷ (e ∷ []) ∷ enc4 own ∷ enc4 session ∷ enc4 parent ∷ [])) ⌝ }
+{
+    let d = byte(byte(byte(byte(start(), kind), a), b), e);
+    four(four(four(d, own), session as u64), parent as u64)
 }
 
 // The record.

@@ -1,0 +1,7 @@
+pub mod ApartCloseFirst
+pub mod ApartPostFirst
+pub mod UnnamedCloseFirst
+pub mod UnnamedPostFirst
+pub mod Conflict
+pub mod Apart
+pub mod Unnamed
