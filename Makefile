@@ -11,5 +11,6 @@ vectors: ## prove SHA-256 and HMAC, then run the vectors of FIPS 180-4 and RFC 4
 test: ## everything: proofs, must-fail edits, programs (the merge gate)
 	bash .ci/run
 
-bench: ## speed of the hash against a plain C version
+bench: ## speed of the hash and of the soundness test against plain versions
 	sh bench/run
+	sh bench/sound/run
