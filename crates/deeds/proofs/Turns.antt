@@ -2,12 +2,12 @@
 use mathlib.Core.Bool.{true}
 use mathlib.Core.Path.{_≡_, refl, sym, ap, _∙_}
 use mathlib.Core.List.{List, [], _∷_, _++_, map, append-assoc, append-nil}
-use Prim.Native.Nat.{ℕ, zero, suc, _+_, _/_, _≤_, _<_}
+use Prim.Native.Nat.{ℕ, suc, _+_, _/_, _≤_, _<_}
 use native.Mathlib.Numerals.{add-one}
 use native.Mathlib.Omega.{arith}
 use lib.ListN.{length, getD, take, drop, set, drop-of-length-le}
 use lib.Seq.{drop-cons, take-all, take-suc-set, drop-set-lt}
-use Rattle.paper.specs.Form.{Rec, Form, say, only}
+use Rattle.paper.specs.Form.{Rec, say, only}
 use Rattle.paper.specs.Records.{records, zeros}
 use Rattle.records.specs.View.{rest, Becomes}
 use Rattle.records.proofs.Views.{length-records, becomes, rest-kept}

@@ -1,8 +1,8 @@
 -- Each record's number, carried out, is what the paper makes of the record.
 use mathlib.Core.Bool.{Bool, true, false, cond, _||_}
-use mathlib.Core.Path.{_≡_, refl, sym, ap, _∙_}
+use mathlib.Core.Path.{_≡_, refl, _∙_}
 use mathlib.Core.List.{List, [], _∷_}
-use mathlib.Core.Logic.{_⊎_, inl, inr}
+use mathlib.Core.Logic.{inl, inr}
 use Prim.Native.Nat.{ℕ}
 use lib.Dec.{lit≤, lit<}
 use Rattle.paper.specs.Limits.{longestPin}
@@ -13,7 +13,7 @@ use Rattle.paper.specs.Pin.{clear, theKey, pinHit}
 use Rattle.paper.specs.Closing.{Keys as Set, goes, keyUnlocked, pukUnlocked, pendingOn, stale, effect, holds, hasKey, shut, sealed, closing}
 use Rattle.paper.specs.Posting.{target}
 use Rattle.paper.specs.Users.{policyOf, givenPin, newPin, changed}
-use Rattle.paper.proofs.Forms.{both, contrary}
+use Rattle.paper.proofs.Forms.{both}
 use Rattle.laws.proofs.Bytes.{byte-over-other, four-over-other}
 use Rattle.laws.proofs.Choice.{either}
 use Rattle.plans.specs.Sets.{keysOf}

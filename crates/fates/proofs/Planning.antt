@@ -1,6 +1,5 @@
 -- A plan made number by number, and what it comes to once it is carried out.
-use mathlib.Core.Bool.{cond}
-use mathlib.Core.Path.{_≡_, refl, sym, ap, _∙_}
+use mathlib.Core.Path.{_≡_, _∙_}
 use mathlib.Core.List.{List, [], map}
 use Prim.Native.Nat.{ℕ, _+_, _/_, _≤_, _<_}
 use native.Mathlib.Nat.{zero-add}
@@ -15,7 +14,7 @@ use Rattle.paper.proofs.Forms.{cases}
 use Rattle.records.proofs.Views.{length-records}
 use Rattle.records.specs.View.{Becomes}
 use Rattle.edits.proofs.Puts.{unchanged}
-use Rattle.deeds.specs.Deeds.{done, turn, dealt}
+use Rattle.deeds.specs.Deeds.{turn, dealt}
 use Rattle.deeds.proofs.Turns.{each-map}
 use Rattle.fates.specs.declared.Deed.{Deed}
 use Rattle.fates.specs.Outcome.{deedFate, outcome, unlessLong, Plan}

@@ -2,7 +2,7 @@
 -- stale, 5 shut, 6 a new PIN, 7 a new PIN and no errors.
 use mathlib.Core.Bool.{cond}
 use mathlib.Core.Path.{_≡_}
-use mathlib.Core.List.{List, [], map}
+use mathlib.Core.List.{List, []}
 use Prim.Native.Nat.{ℕ, _<_}
 use lib.Dec.{leb}
 use lib.ListN.{length, getD}
@@ -14,7 +14,6 @@ use Rattle.paper.specs.Pin.{theKey}
 use Rattle.paper.specs.Closing.{holds, hasKey, effect, closing}
 use Rattle.paper.specs.Posting.{target}
 use Rattle.paper.specs.Users.{policyOf, givenPin, changed}
-use Rattle.plans.specs.declared.Keys.{Keys}
 use Rattle.plans.specs.Sets.{keysOf}
 use Rattle.plans.specs.Fate.{fate}
 use Rattle.fates.specs.declared.Deed.{Deed}

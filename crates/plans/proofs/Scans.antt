@@ -1,17 +1,16 @@
 -- A loop that looks for a record: what is left of the search at a place and one place further.
-use mathlib.Core.Bool.{Bool, true, false, not, _&&_, _||_}
-use mathlib.Core.Path.{_≡_, refl, sym, ap, _∙_}
+use mathlib.Core.Bool.{Bool, true, false, _&&_}
+use mathlib.Core.Path.{_≡_, refl, ap}
 use mathlib.Core.List.{List, [], _∷_}
 use Prim.Native.Nat.{ℕ, _+_, _/_, _≤_, _<_}
 use lib.ListN.{length, getD, drop}
 use lib.Dec.{eqb}
 use Rattle.paper.specs.Form.{Rec, Form, test, some, exists}
 use Rattle.paper.specs.Records.{records, kind, POLICY, KEY, PUK, own, session, parent}
-use Rattle.paper.specs.Closing.{Keys as Set, none, hasKey, pukUnlocked, keyUnlocked}
+use Rattle.paper.specs.Closing.{Keys as Set, pukUnlocked}
 use Rattle.records.proofs.Views.{records-from, records-end}
-use Rattle.plans.specs.declared.Under.the-variants.{Session}
 use Rattle.plans.specs.declared.Lot.the-variants.{Unlocked}
-use Rattle.plans.specs.Sets.{keySo, policySo}
+use Rattle.plans.specs.Sets.{policySo}
 
 module _ (φ : Rec → Form) (s : List ℕ) (i : ℕ) where
   pub some-here : i < length s / 256 → test (φ (getD (records s) i [])) ≡ true → test (some (drop i (records s)) φ) ≡ true
@@ -27,15 +26,6 @@ module _ (φ : Rec → Form) (s : List ℕ) (i : ℕ) where
 pub exists-same : (p q : Rec → Bool) → ((x : Rec) → p x ≡ q x) → (rs : List Rec) → exists p rs ≡ exists q rs
 exists-same p q h [] = refl
 exists-same p q h (x ∷ rs) = rw (h x, exists-same p q h rs)
-
--- where no key goes, each that a session has stays
-pub has-key : (s : ℕ) (rs : List Rec) → test (some rs (keySo none rs (Session s) false)) ≡ test (hasKey s rs)
-has-key s rs = exists-same _ _ (λ x. stays (eqb (kind x) KEY) (eqb (session x) s)) rs
-  where
-    stays : (a b : Bool) → ((a && b) && not (a && false)) ≡ (a && b)
-    stays true true = refl
-    stays true false = refl
-    stays false b = refl
 
 -- a PUK's policies of which a key is unlocked
 pub puk-unlocked : (u : Set) (rs : List Rec) (r : Rec)

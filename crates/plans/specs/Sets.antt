@@ -5,10 +5,11 @@ use Prim.Native.Nat.{ℕ}
 use Rattle.paper.specs.Form.{Rec, Form, _==_, no, _and_, some}
 use Rattle.paper.specs.Records.{kind, POLICY, KEY, own, session, parent, operation}
 use Rattle.paper.specs.Closing.{Keys as Set, none, one, held, holds, keyGoes, policyGoes}
+use Rattle.records.specs.declared.Choice.{Choice}
+use Rattle.records.specs.declared.Choice.the-variants.{Child}
+use Rattle.records.specs.Choices.{chosen}
 use Rattle.plans.specs.declared.Keys.{Keys}
 use Rattle.plans.specs.declared.Keys.the-variants.{Nobody, One, Held}
-use Rattle.plans.specs.declared.Under.{Under}
-use Rattle.plans.specs.declared.Under.the-variants.{Policy, Session}
 use Rattle.plans.specs.declared.Lot.{Lot}
 use Rattle.plans.specs.declared.Lot.the-variants.{Gone, Kept, Unlocked}
 
@@ -22,26 +23,21 @@ keysOf (Held s op) rs = holds s op rs
 abbrev pub holding : ℕ → ℕ → ℕ → Rec → Form
 holding s op k q = held s k q and operation q == op
 
--- The keys of a policy, and those of a session.
-abbrev pub under : Under → Rec → Form
-under (Policy o s) x = kind x == KEY and parent x == o and session x == s
-under (Session s) x = kind x == KEY and session x == s
-
 -- A statement, or that it fails.
 abbrev pub turned : Bool → Form → Form
 turned true φ = φ
 turned false φ = no φ
 
 module _ (d : Set) (rs : List Rec) where
-  -- Such a key that goes, or that stays.
-  abbrev pub keySo : Under → Bool → Rec → Form
-  keySo w gone x = under w x and turned gone (keyGoes d rs x)
+  -- A key that is meant and goes, or stays.
+  abbrev pub keySo : Choice → Bool → Rec → Form
+  keySo c gone x = chosen c x and turned gone (keyGoes d rs x)
 
   -- A policy that goes, that stays, or of which a key is unlocked.
   abbrev pub lotOf : ℕ → Lot → Rec → Form
   lotOf s Gone p = policyGoes d rs p
   lotOf s Kept p = no (policyGoes d rs p)
-  lotOf s Unlocked p = some rs (keySo (Policy (own p) s) true)
+  lotOf s Unlocked p = some rs (keySo (Child KEY (own p) s) true)
 
   -- Such a policy under that PUK.
   abbrev pub policySo : ℕ → ℕ → Lot → Rec → Form

@@ -1,7 +1,9 @@
 // What becomes of each record where keys are removed and unlocked, found by reading the store alone. A record goes where its last
 // child goes, so every test is of one record against the store; what is found is a number for each record, carried out elsewhere.
-use records::bears;
+use records::Choice;
+use records::has;
 use records::is_child;
+use records::is_chosen;
 use records::is_held;
 use records::is_kind;
 use records::record_at;
@@ -11,7 +13,8 @@ ghost use mathlib.Core.Path.{_≡_};
 ghost use Rattle.paper.specs.Form.{test, some, _or_};
 ghost use Rattle.paper.specs.Records.{records};
 ghost use Rattle.paper.specs.Closing.{holds as heldBy, lost, keyGoes, policyGoes, pukGoes, sessionGoes, goes as itGoes, keyUnlocked, pukUnlocked, pendingOn, hasKey};
-ghost use Rattle.plans.specs.Sets.{keysOf, holding, under, keySo, policySo};
+ghost use Rattle.records.specs.Choices.{chosen};
+ghost use Rattle.plans.specs.Sets.{keysOf, holding, keySo, policySo};
 ghost use Rattle.plans.specs.Fate.{fate};
 
 // A set of keys: none; one handle; those on which a session has an unstale pending of an operation.
@@ -19,12 +22,6 @@ pub enum Keys {
     Nobody,
     One(u32),
     Held(u32, u8),
-}
-
-// The keys of a policy, by its handle and session, or of a session.
-pub enum Under {
-    Policy(u32, u32),
-    Session(u32),
 }
 
 // What a policy is looked for by: it goes, it stays, or a key of it is unlocked.
@@ -89,28 +86,17 @@ pub fn pending_on(store: &[u8], ks: Keys, r: &[u8]) -> bool
     is_in(store, ks, four_at(r, 12))
 }
 
-fn is_of(x: &[u8], session: u32) -> bool
-    ensures { λ b. ⌜ b ≡ test (under (Under.Session session) (now (x .entry))) ⌝ }
+// Whether the session has a key.
+pub fn has_key(store: &[u8], session: u32) -> bool
+    ensures { λ b. ⌜ b ≡ test (hasKey session (records (now (store .entry)))) ⌝ }
 {
-    if !is_kind(x, 4) {
-        return false;
-    }
-    bears(x, session)
+    has(store, Choice::Of(4, session))
 }
 
-fn is_under(x: &[u8], w: Under) -> bool
-    ensures { λ b. ⌜ b ≡ test (under w (now (x .entry))) ⌝ }
+fn is_key_so(store: &[u8], ks: Keys, c: Choice, gone: bool, x: &[u8]) -> bool
+    ensures { λ b. ⌜ b ≡ test (keySo (keysOf ks (records (now (store .entry)))) (records (now (store .entry))) c gone (now (x .entry))) ⌝ }
 {
-    match w {
-        Under::Policy(own, session) => is_child(x, 4, own, session),
-        Under::Session(session) => is_of(x, session),
-    }
-}
-
-fn is_key_so(store: &[u8], ks: Keys, w: Under, gone: bool, x: &[u8]) -> bool
-    ensures { λ b. ⌜ b ≡ test (keySo (keysOf ks (records (now (store .entry)))) (records (now (store .entry))) w gone (now (x .entry))) ⌝ }
-{
-    if !is_under(x, w) {
+    if !is_chosen(x, c) {
         return false;
     }
     if gone {
@@ -120,13 +106,13 @@ fn is_key_so(store: &[u8], ks: Keys, w: Under, gone: bool, x: &[u8]) -> bool
 }
 
 // Whether some such key goes, or stays.
-fn some_key(store: &[u8], ks: Keys, w: Under, gone: bool) -> bool
-    ensures { λ b. ⌜ b ≡ test (some (records (now (store .entry))) (keySo (keysOf ks (records (now (store .entry)))) (records (now (store .entry))) w gone)) ⌝ }
+fn some_key(store: &[u8], ks: Keys, c: Choice, gone: bool) -> bool
+    ensures { λ b. ⌜ b ≡ test (some (records (now (store .entry))) (keySo (keysOf ks (records (now (store .entry)))) (records (now (store .entry))) c gone)) ⌝ }
 {
     let n = store.len() / 256;
     let mut i: usize = 0;
     while i < n {
-        if is_key_so(store, ks, w, gone, record_at(store, i)) {
+        if is_key_so(store, ks, c, gone, record_at(store, i)) {
             return true;
         }
         i += 1;
@@ -135,20 +121,13 @@ fn some_key(store: &[u8], ks: Keys, w: Under, gone: bool) -> bool
 }
 
 // Whether there were such keys, and all of them go.
-fn keys_lost(store: &[u8], ks: Keys, w: Under) -> bool
-    ensures { λ b. ⌜ b ≡ test (lost (records (now (store .entry))) (under w) (keyGoes (keysOf ks (records (now (store .entry)))) (records (now (store .entry))))) ⌝ }
+fn keys_lost(store: &[u8], ks: Keys, c: Choice) -> bool
+    ensures { λ b. ⌜ b ≡ test (lost (records (now (store .entry))) (chosen c) (keyGoes (keysOf ks (records (now (store .entry)))) (records (now (store .entry))))) ⌝ }
 {
-    if !some_key(store, ks, w, true) {
+    if !some_key(store, ks, c, true) {
         return false;
     }
-    !some_key(store, ks, w, false)
-}
-
-// Whether the session has a key.
-pub fn has_key(store: &[u8], session: u32) -> bool
-    ensures { λ b. ⌜ b ≡ test (hasKey session (records (now (store .entry)))) ⌝ }
-{
-    some_key(store, Keys::Nobody, Under::Session(session), false)
+    !some_key(store, ks, c, false)
 }
 
 // Whether the record is a policy left without child.
@@ -158,7 +137,7 @@ pub fn policy_goes(store: &[u8], ds: Keys, r: &[u8]) -> bool
     if !is_kind(r, 3) {
         return false;
     }
-    keys_lost(store, ds, Under::Policy(four_at(r, 4), four_at(r, 8)))
+    keys_lost(store, ds, Choice::Child(4, four_at(r, 4), four_at(r, 8)))
 }
 
 // Whether it is a closed session left without key.
@@ -171,7 +150,7 @@ pub fn session_goes(store: &[u8], ds: Keys, r: &[u8]) -> bool
     if byte_at(r, 1) != 2 {
         return false;
     }
-    keys_lost(store, ds, Under::Session(four_at(r, 4)))
+    keys_lost(store, ds, Choice::Of(4, four_at(r, 4)))
 }
 
 fn is_policy_so(store: &[u8], ks: Keys, own: u32, session: u32, l: Lot, p: &[u8]) -> bool
@@ -183,7 +162,7 @@ fn is_policy_so(store: &[u8], ks: Keys, own: u32, session: u32, l: Lot, p: &[u8]
     match l {
         Lot::Gone => policy_goes(store, ks, p),
         Lot::Kept => !policy_goes(store, ks, p),
-        Lot::Unlocked => some_key(store, ks, Under::Policy(four_at(p, 4), session), true),
+        Lot::Unlocked => some_key(store, ks, Choice::Child(4, four_at(p, 4), session), true),
     }
 }
 

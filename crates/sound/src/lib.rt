@@ -16,7 +16,7 @@ ghost use Rattle.paper.specs.Records.{records};
 ghost use Rattle.paper.specs.Sound.{lengthFits, alone as aloneForm, distinct, related, housed, policiesUsed, pinsShared, sound};
 ghost use Rattle.sound.specs.Whole.{agreeing};
 
-fn length_fits(s: &[u8]) -> bool
+pub fn length_fits(s: &[u8]) -> bool
     ensures { λ b. ⌜ b ≡ lengthFits (now (s .entry)) ⌝ }
 {
     let n = s.len() / 256;

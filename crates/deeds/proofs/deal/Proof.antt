@@ -2,7 +2,6 @@
 use Prim.Native.Nat.{_-_, _/_}
 use Rattle.deeds.proofs.Turns.{Turns, turns-done, turns-step}
 use Rattle.deeds.specs.Deeds.{dealt, turn}
-use Rattle.paper.specs.Records.{at}
 use borrow.Author.Needs.{needs}
 use lib.ListN.{length}
 use mathlib.Core.Path.{refl}

@@ -1,7 +1,5 @@
 -- Each number has its own function.
 use Rattle.deeds.specs.Deeds.{done}
-use Rattle.paper.specs.Closing.{shut, stale}
-use Rattle.paper.specs.Pin.{clear}
 use Rattle.paper.specs.Records.{zeros}
 use borrow.Author.Needs.{needs}
 use borrow.Author.Tests.{ne-eqb}

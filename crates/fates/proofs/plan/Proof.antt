@@ -2,7 +2,7 @@
 use Prim.Native.Nat.{_-_, _/_, _<_, _≤_}
 use Rattle.fates.proofs.Planning.{Planned, planned-done, planned-step}
 use Rattle.fates.specs.Outcome.{deedFate}
-use Rattle.paper.specs.Records.{at, records}
+use Rattle.paper.specs.Records.{records}
 use Rattle.records.proofs.Views.{length-records}
 use borrow.Author.Needs.{needs}
 use lib.ListN.{length}

@@ -1,5 +1,4 @@
 -- The tests in order: the first that holds decides.
-use Rattle.plans.proofs.Scans.{puk-unlocked}
 use Rattle.plans.specs.Fate.{fate}
 use borrow.Author.Needs.{needs}
 use mathlib.Core.Path.{_∙_, sym}

@@ -1,5 +1,4 @@
 -- Each set has its own test.
-use Rattle.paper.specs.Closing.{holds}
 use borrow.Author.Needs.{needs}
 use Rattle.plans.proofs.is_in.Statement.{statement}
 use Rattle.plans.proofs.is_in.Tie as tie

@@ -1,0 +1,55 @@
+-- The key's record is certified by value and put back (`edit-at`), any other is left.
+use mathlib.Core.Path.{_∙_, ap}
+use Rattle.edits.proofs.Puts.{edit-at, keep-at}
+use Rattle.records.proofs.Places.{told}
+use Rattle.paper.specs.Records.{KEY, is}
+use Rattle.paper.specs.Objects.{certified}
+use borrow.Author.Needs.{needs}
+use Rattle.certs.proofs.certify_at.Statement.{statement}
+use Rattle.certs.proofs.certify_at.Tie as tie
+
+record-at-requires : tie.Need-record-at-requires
+record-at-requires c κs = search needs
+
+is-that-requires : tie.Need-is-that-requires
+is-that-requires c κs = search needs
+
+copy-of-requires : tie.Need-copy-of-requires
+copy-of-requires c κs = search needs
+
+certified-requires : tie.Need-certified-requires
+certified-requires c κs = search needs
+
+put-requires : tie.Need-put-requires
+put-requires c κs = search needs
+
+same-length : tie.Need-same-length
+same-length c = search needs
+
+returns : tie.Need-returns
+returns c = let a = c .before .before .before .before .before .before .before .before .before .before .before .before .before .args in
+    let φ = is KEY (a .k) (a .t) in
+    let f = certified (a .d) in
+    edit-at φ f (a .s .now) _ _ _ (told φ (c .before .before .before .before .before .before .before .before .before .before .record-at .ensures) (c .before .before .before .before .before .before .before .before .before .is-that .ensures) (c .before .before .before .before .before .before .before .before .if1 .taken)) (c .before .before .before .before .before .certified .ensures ∙ ap f (c .before .before .before .before .before .before .copy-of .ensures)) (c .before .before .put .ensures)
+
+same-length-2 : tie.Need-same-length-2
+same-length-2 c = search needs
+
+returns-2 : tie.Need-returns-2
+returns-2 c = let a = c .before .before .before .before .before .args in
+    let φ = is KEY (a .k) (a .t) in
+    keep-at φ (certified (a .d)) (a .s .now) _ (told φ (c .before .before .record-at .ensures) (c .before .is-that .ensures) (c .if1 .left))
+
+pub certify-at-spec : {M : Type 1} → statement M
+certify-at-spec =
+    tie.close
+    (tie.spec
+    record-at-requires
+    is-that-requires
+    copy-of-requires
+    certified-requires
+    put-requires
+    same-length
+    returns
+    same-length-2
+    returns-2)

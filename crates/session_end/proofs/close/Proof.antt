@@ -1,0 +1,69 @@
+-- The range first, then the refusals (`ended-not`), then the close itself (`closed`).
+use Rattle.paper.specs.Records.{records}
+use Rattle.outcomes.proofs.Methods.{too-long, in-range, not-long}
+use Rattle.session_end.specs.Ends.{ended}
+use Rattle.session_end.proofs.Ending.{ended-not, closed}
+use borrow.Author.Needs.{needs}
+use Rattle.session_end.proofs.close.Statement.{statement}
+use Rattle.session_end.proofs.close.Tie as tie
+
+bare-requires : tie.Need-bare-requires
+bare-requires c κs = search needs
+
+returns : tie.Need-returns
+returns c =
+    let args = c .before .before .before .before .before .args in
+    let if1 = c .before .if1 in
+    rw (c .bare .ensures) (too-long (ended (args .c .now) (args .chip .now)) (args .s .now) (if1 .taken))
+
+four-at-requires : tie.Need-four-at-requires
+four-at-requires c κs = search needs
+
+close-status-requires : tie.Need-close-status-requires
+close-status-requires c κs = search needs
+
+refuse-requires : tie.Need-refuse-requires
+refuse-requires c κs = search needs
+
+same-length : tie.Need-same-length
+same-length c = search needs
+
+returns-2 : tie.Need-returns-2
+returns-2 c =
+    let args = c .before .before .before .before .before .before .before .before .before .before .before .before .args in
+    let if1 = c .before .before .before .before .before .before .before .before .if1 in
+    let four-at = c .before .before .before .before .before .before .before .four-at in
+    let close-status = c .before .before .before .before .before .close-status in
+    let if2 = c .before .before .before .before .if2 in
+    let refuse = c .before .before .refuse in
+    in-range (ended (args .c .now) (args .chip .now)) (args .s .now) (if1 .left) (rw (ended-not (args .c .now) (args .chip .now) (records (args .s .now)) (close-status .ensures) (if2 .taken), ← four-at .ensures) (refuse .ensures))
+
+own-requires : tie.Need-own-requires
+own-requires c κs = search needs
+
+attested-close-requires : tie.Need-attested-close-requires
+attested-close-requires c κs = search needs
+
+close-requires : tie.Need-close-requires
+close-requires c κs = search needs
+
+same-length-2 : tie.Need-same-length-2
+same-length-2 c = search needs
+
+returns-3 : tie.Need-returns-3
+returns-3 c =
+    let args = c .before .before .before .before .before .before .before .before .before .before .before .before .before .before .before .args in
+    let if1 = c .before .before .before .before .before .before .before .before .before .before .before .if1 in
+    let four-at = c .before .before .before .before .before .before .before .before .before .before .four-at in
+    let close-status = c .before .before .before .before .before .before .before .before .close-status in
+    let if2 = c .before .before .before .before .before .before .before .if2 in
+    let own = c .before .before .before .before .before .own in
+    let attested-close = c .before .before .before .before .attested-close in
+    let close = c .before .before .close in
+    in-range (ended (args .c .now) (args .chip .now)) (args .s .now) (if1 .left)
+    (closed (args .c .now) (args .chip .now) (four-at .result) (own .result .now) (attested-close .result) (close-status .ensures) (if2 .left) (four-at .ensures) (own .ensures) (attested-close .ensures) (not-long (args .s .now) _ (if1 .left) (close .ensures)))
+
+pub close-spec : {M : Type 1} → statement M
+close-spec =
+    tie.close
+    (tie.spec bare-requires returns four-at-requires close-status-requires refuse-requires same-length returns-2 own-requires attested-close-requires close-requires same-length-2 returns-3)

@@ -1,0 +1,54 @@
+-- Invariant: what is done and what is to do make up the whole edit (`todo-step`, `todo-done`).
+use Prim.Native.Nat.{_-_, _/_}
+use lib.ListN.{length}
+use mathlib.Core.Path.{refl}
+use Rattle.paper.specs.Records.{zeros}
+use Rattle.edits.proofs.Todos.{Todo, todo-done, todo-step}
+use borrow.Author.Needs.{needs}
+use Rattle.token.proofs.clear.Statement.{statement}
+use Rattle.token.proofs.clear.Tie as tie
+
+abbrev Inv-loop : tie.InvT-loop
+Inv-loop s₀ n i₀ s i = Todo (λ r. zeros) s₀ s i
+
+abbrev μ-loop : tie.MeasureT-loop
+μ-loop s₀ n i₀ s i = length s₀ / 256 - i
+
+loop-holds : tie.Need-loop-holds Inv-loop μ-loop
+loop-holds c = record { left = refl; tail = refl; same = refl }
+
+free-at-requires : tie.Need-free-at-requires Inv-loop μ-loop
+free-at-requires c κs = search needs
+
+add-i : tie.Need-add-i Inv-loop μ-loop
+add-i c = search needs
+
+loop-less : tie.Need-loop-less Inv-loop μ-loop
+loop-less c = search needs
+
+loop-again : tie.Need-loop-again Inv-loop μ-loop
+loop-again c =
+    let loop = c .before .before .before .before .before .loop in
+    let loop-test = c .before .before .before .before .loop-test in
+    let free-at = c .before .before .free-at in
+    todo-step (loop .inv) _ (loop-test .taken) (free-at .ensures) (free-at .kept .0)
+
+same-length : tie.Need-same-length Inv-loop μ-loop
+same-length c = c .before .loop .inv .same
+
+returns : tie.Need-returns Inv-loop μ-loop
+returns c = todo-done (c .before .loop .inv) (c .loop-test .left)
+
+pub clear-spec : {M : Type 1} → statement M
+clear-spec =
+    tie.close
+    (tie.spec
+    Inv-loop
+    μ-loop
+    loop-holds
+    free-at-requires
+    add-i
+    loop-less
+    loop-again
+    same-length
+    returns)

@@ -1,0 +1,19 @@
+-- The record as the paper lays it, by computing.
+use Rattle.paper.specs.Answer.{freshCounter}
+use mathlib.Core.Path.{refl}
+use borrow.Author.Needs.{needs}
+use Rattle.token.proofs.counter.Statement.{statement}
+use Rattle.token.proofs.counter.Tie as tie
+
+array-write-r : tie.Need-array-write-r
+array-write-r c = search needs
+
+array-write-r-2 : tie.Need-array-write-r-2
+array-write-r-2 c = search needs
+
+returns : tie.Need-returns
+unfolding freshCounter
+returns c = refl
+
+pub counter-spec : {M : Type 1} → statement M
+counter-spec = tie.close (tie.spec array-write-r array-write-r-2 returns)

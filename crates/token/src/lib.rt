@@ -1,0 +1,198 @@
+// The token's two functions: a store is formatted, a call is answered. Both take any bytes. The meaning is that of the paper's Answer.
+// Whatever is refused before the method is known, or before its session is found open, leaves the store as it is.
+use ladder::Reply;
+use ladder::bare;
+use ladder::both;
+use ladder::fault;
+use records::Choice;
+use slices::byte_at;
+use slices::four_at;
+ghost use mathlib.Core.Path.{_≡_};
+ghost use mathlib.Core.Bool.{true};
+ghost use mathlib.Core.List.{_∷_, _++_, map};
+ghost use Prim.Native.Nat.{_≤_};
+ghost use lib.ListN.{length};
+ghost use Rattle.paper.specs.Bytes.{enc4, over};
+ghost use Rattle.paper.specs.Form.{test};
+ghost use Rattle.paper.specs.Records.{records, zeros};
+ghost use Rattle.paper.specs.Sound.{sound as isSound};
+ghost use Rattle.paper.specs.Answer.{isOpen, earlyFaults, sessionStep, userStep, step as stepOf, judged, answer, freshCounter, formatted};
+ghost use Rattle.records.specs.View.{Becomes};
+ghost use Rattle.ladder.specs.Rungs.{status};
+ghost use Rattle.ladder.specs.Answers.{Answers, bareReply};
+ghost use Rattle.token.specs.Said.{known, told, made};
+
+// The counter of session numbers at 1.
+fn counter() -> [u8; 256]
+    ensures { λ r. ⌜ r ≡ freshCounter ⌝ }
+{
+    let mut r = [0u8; 256];
+    r[0] = 6;
+    r[7] = 1;
+    r
+}
+
+// Every record is freed.
+fn clear(s: &mut [u8])
+    ensures { λ _. ⌜ Becomes (map (λ r. zeros) (records (now (s .entry)))) (now (s .entry)) (now (s .exit)) ⌝ }
+{
+    let n = s.len() / 256;
+    let mut i: usize = 0;
+    while i < n {
+        edits::free_at(s, i);
+        i += 1;
+    }
+}
+
+// The counter in the first place and all else free; or 19, where no store has that length.
+pub fn format(store: &mut [u8]) -> u8
+    ensures { λ r. ⌜ made r (now (store .exit)) ≡ formatted (now (store .entry)) ⌝ }
+{
+    if !sound::length_fits(store) {
+        return 19;
+    }
+    clear(store);
+    let r = counter();
+    edits::put(store, 0, &r);
+    0
+}
+
+fn is_open(s: &[u8], t: u32) -> bool
+    ensures { λ b. ⌜ b ≡ test (isOpen t (records (now (s .entry)))) ⌝ }
+{
+    byte_at(records::first(s, Choice::That(1, t, t)), 1) == 1
+}
+
+// What is asked before the method: a sound store, a method and a length that there are, an open session.
+fn early(s: &[u8], c: &[u8]) -> u8
+    ensures { λ r. ⌜ r ≡ status (earlyFaults (now (s .entry)) (now (c .entry))) ⌝ }
+{
+    let n1 = fault(0, !sound::is_sound(s), 19);
+    let n2 = fault(n1, !form::is_known(c), 16);
+    let closed = !is_open(s, four_at(c, 1));
+    fault(n2, both(form::is_session_call(c), closed), 5)
+}
+
+// The calls of a session, by their method.
+fn session_step<'a>(s: &mut [u8], c: &'a [u8], chip: &'a [u8]) -> Reply
+    requires { ⌜ isSound (now s) ≡ true ⌝ }
+    ensures { λ r. ⌜ Answers (sessionStep (now (c .entry)) (now (chip .entry)) (records (now (s .entry)))) r (now (s .entry)) (now (s .exit)) ⌝ }
+{
+    let m = byte_at(c, 0);
+    if m == 3 {
+        return session_end::close(s, c, chip);
+    }
+    if m == 5 {
+        return session_end::abort(s, c, chip);
+    }
+    if m == 8 {
+        return policies::make_puk(s, c, chip);
+    }
+    if m == 9 {
+        return policies::make_policy(s, c, chip);
+    }
+    if m == 10 {
+        return keys::make_key(s, c, chip);
+    }
+    if m == 12 {
+        return certs::set_path(s, c, chip);
+    }
+    if m == 50 {
+        return posting::post_delete(s, c, chip);
+    }
+    posting::post_unlock(s, c, chip)
+}
+
+// The user's calls.
+fn user_step(s: &mut [u8], c: &[u8], chip: &[u8]) -> u8
+    requires { ⌜ isSound (now s) ≡ true ⌝ }
+    ensures { λ r. ⌜ Answers (userStep (now (c .entry)) (now (chip .entry)) (records (now (s .entry)))) (bareReply r) (now (s .entry)) (now (s .exit)) ⌝ }
+{
+    let m = byte_at(c, 0);
+    if m == 80 {
+        return users::delete(s, c, chip);
+    }
+    if m == 82 {
+        return users::unlock(s, c, chip);
+    }
+    if m == 83 {
+        return users::change(s, c, chip);
+    }
+    users::use_key(s, c, chip)
+}
+
+fn step<'a>(s: &mut [u8], c: &'a [u8], chip: &'a [u8]) -> Reply
+    requires { ⌜ isSound (now s) ≡ true ⌝ }
+    ensures { λ r. ⌜ Answers (stepOf (now (c .entry)) (now (chip .entry)) (records (now (s .entry)))) r (now (s .entry)) (now (s .exit)) ⌝ }
+{
+    if form::is_session_call(c) {
+        return session_step(s, c, chip);
+    }
+    if byte_at(c, 0) == 2 {
+        return session_start::create(s, c, chip);
+    }
+    bare(user_step(s, c, chip))
+}
+
+fn judge<'a>(s: &mut [u8], c: &'a [u8], chip: &'a [u8]) -> Reply
+    ensures { λ r. ⌜ known r (now (s .exit)) ≡ judged (now (s .entry)) (now (c .entry)) (now (chip .entry)) ⌝ }
+{
+    let n = early(s, c);
+    if n != 0 {
+        return bare(n);
+    }
+    step(s, c, chip)
+}
+
+// The reply's bytes: status and handle, and then the attestation.
+fn write_head(b: &mut [u8], n: u8, h: u64)
+    requires { ⌜ 37 ≤ length (now b) ⌝ }
+    ensures { λ _. ⌜ now (b .exit) ≡ over 0 (n ∷ enc4 h) (now (b .entry)) ⌝ }
+{
+    b[0] = n;
+    b[1] = (h / 256 / 256 / 256 % 256) as u8;
+    b[2] = (h / 256 / 256 % 256) as u8;
+    b[3] = (h / 256 % 256) as u8;
+    b[4] = (h % 256) as u8;
+}
+
+fn write_attestation(b: &mut [u8], a: [u8; 32])
+    requires { ⌜ 37 ≤ length (now b) ⌝ }
+    ensures { λ _. ⌜ now (b .exit) ≡ over 5 a (now (b .entry)) ⌝ }
+{
+    bytes::copy(&a, &mut b[5..37]);
+}
+
+// The answer to a call. A reply of fewer than 37 bytes is not written, and nothing is done.
+pub fn call<'a>(store: &mut [u8], call: &'a [u8], chip: &'a [u8], reply: &mut [u8]) -> u8
+    ensures { λ r. ⌜ told r (now (store .exit)) (now (reply .exit)) ≡ answer (now (store .entry)) (now (call .entry)) (now (chip .entry)) (now (reply .entry)) ⌝ }
+{
+    if reply.len() < 37 {
+        return 21;
+    }
+    let r = judge(store, call, chip);
+    let a = r.attestation;
+    write_head(reply, r.status, r.handle);
+    write_attestation(reply, a);
+    r.status
+}
+
+// The same two for C: a slice is passed as a pointer, then a length.
+#[no_mangle]
+pub extern "C" fn sks_format(store: &mut [u8]) -> u8
+    ensures { λ r. ⌜ made r (now (store .exit)) ≡ formatted (now (store .entry)) ⌝ }
+{
+    format(store)
+}
+
+#[no_mangle]
+pub extern "C" fn sks_call<'a>(
+    store: &mut [u8],
+    c: &'a [u8],
+    chip: &'a [u8],
+    reply: &mut [u8],
+) -> u8
+    ensures { λ r. ⌜ told r (now (store .exit)) (now (reply .exit)) ≡ answer (now (store .entry)) (now (c .entry)) (now (chip .entry)) (now (reply .entry)) ⌝ }
+{
+    call(store, c, chip, reply)
+}
