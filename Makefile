@@ -1,5 +1,5 @@
 # What can be run here. `make help` lists it.
-.PHONY: help vectors test bench
+.PHONY: help vectors story test bench
 
 help: ## this list
 	@grep -E '^[a-z]+:.*##' Makefile | sed -E 's/:.*## /\t/'
@@ -7,6 +7,10 @@ help: ## this list
 vectors: ## prove SHA-256 and HMAC, then run the vectors of FIPS 180-4 and RFC 4231
 	rt check vectors
 	./target/bin/vectors
+
+story: ## prove the token, then tell the story of two tabs and one key, call by call
+	rt check story
+	./target/bin/story
 
 test: ## everything: proofs, must-fail edits, programs (the merge gate)
 	bash .ci/run
