@@ -1,20 +1,28 @@
 # What can be run here. `make help` lists it.
-.PHONY: help vectors story test bench
+.PHONY: help story test lib vectors edits bench fuzz
 
 help: ## this list
 	@grep -E '^[a-z]+:.*##' Makefile | sed -E 's/:.*## /\t/'
-
-vectors: ## prove SHA-256 and HMAC, then run the vectors of FIPS 180-4 and RFC 4231
-	rt check vectors
-	./target/bin/vectors
 
 story: ## prove the token, then tell the story of two tabs and one key, call by call
 	rt check story
 	./target/bin/story
 
-test: ## everything: proofs, must-fail edits, programs (the merge gate)
+test: ## everything: proofs, must-fail edits, programs, the tests around the library (the merge gate)
 	bash .ci/run
 
-bench: ## speed of the hash and of the soundness test against plain versions
+lib: ## prove the token and make target/staticlib/libtoken.a, for C and Rust (include/sks.h)
+	rt staticlib token
+
+vectors: ## prove SHA-256 and HMAC, then run the examples of FIPS 180-4 and RFC 4231
+	rt check vectors
+	./target/bin/vectors
+
+edits: ## try every must-fail edit, those too that the gate leaves out
+	scripts/edits
+
+bench: lib ## speed, stack and size against plain versions; writes docs/BENCH.md and its picture
 	sh bench/run
-	sh bench/sound/run
+
+fuzz: lib ## arbitrary bytes in all four buffers, for a minute (host/fuzz/run takes seconds); needs clang
+	host/fuzz/run 60

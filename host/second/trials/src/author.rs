@@ -4,10 +4,11 @@
 //! chosen place. What it means a call to be is kept with the call: a fault bounds how late in the order of refusals the
 //! answer may come.
 
-use crate::builder::{self, Built, CreateKey, CreatePinPolicy, CreatePuk, CreateSession, Issuer, Post, SetPath};
 use crate::crafted::{random_id, random_pin, random_text};
+use crate::mutation::{mutate, Mutation, MUTATIONS};
 use crate::random::Random;
 use crate::table::Column::{self, FirstForm, SecondForm, Status};
+use builder::{Built, CreateKey, CreatePinPolicy, CreatePuk, CreateSession, Issuer, Post, SetPath};
 use second::pin;
 use second::records::{key, pending, policy, puk, session, Fields, Record};
 
@@ -72,10 +73,10 @@ impl Author {
         if self.random.percent(5) {
             written.fault = None;
             written.intent = "bytes spoilt";
-            let how = self.random.pick(&builder::MUTATIONS);
+            let how = self.random.pick(&MUTATIONS);
             // Calls at the longest length are dear in a trace; a few are enough.
-            if how != builder::Mutation::TooLong || self.random.percent(10) {
-                builder::mutate(&mut written.built, how, &mut self.random);
+            if how != Mutation::TooLong || self.random.percent(10) {
+                mutate(&mut written.built, how, &mut self.random);
             }
         } else if self.random.percent(3) {
             written = self.no_call(written.built);
@@ -154,7 +155,7 @@ impl Author {
             _ => {
                 // No open session comes before the form.
                 let mut built = CreatePuk::default().build(&issuer);
-                builder::mutate(&mut built, builder::Mutation::LengthenCall, &mut self.random);
+                mutate(&mut built, Mutation::LengthenCall, &mut self.random);
                 built
             }
         };

@@ -228,6 +228,11 @@ pub fn random_text(random: &mut Random, format: u8, length: usize) -> Vec<u8> {
             }
             text
         }
+        _ if random.percent(15) => {
+            // A run of neighbours that crosses from FF to 00, or back, which are no neighbours.
+            let (start, step) = random.pick(&[(0xfe_u8, 1_u8), (0xff, 1), (0x01, 255), (0x00, 255)]);
+            (0..length).map(|place| start.wrapping_add((place as u8).wrapping_mul(step))).collect()
+        }
         _ => random.bytes(length),
     }
 }

@@ -82,12 +82,13 @@ impl History {
     fn begin(&mut self) {
         let random = &mut self.author.random;
         self.steps_left = random.between(10, 70);
-        let count = match random.below(8) {
-            0 => random.between(2, self.most_records.min(4)),
-            1 => random.between(2, self.most_records),
-            2 => self.most_records,
-            3 | 4 => random.between(2, self.most_records.min(40)),
-            _ => random.between(2.max(self.most_records * 2 / 3), self.most_records),
+        // A test of soundness takes time as the square of the records, so the large stores are the fewer.
+        let count = match random.below(16) {
+            0 => self.most_records,
+            1 => random.between(2.max(self.most_records * 2 / 3), self.most_records),
+            2 | 3 => random.between(2, self.most_records),
+            4 | 5 => random.between(2, self.most_records.min(4)),
+            _ => random.between(2, self.most_records.min(40)),
         };
         if random.percent(15) {
             self.store = random.bytes(256 * count);

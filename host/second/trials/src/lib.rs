@@ -1,12 +1,14 @@
-//! Trials of the store: calls of every method, crafted stores, random histories, and the notation of traces.
+//! Trials of the store: crafted stores, random histories, two sessions side by side, and the notation of traces.
 
 #![forbid(unsafe_code)]
 
 pub mod author;
-pub mod builder;
 pub mod crafted;
 pub mod events;
 pub mod histories;
+pub mod mutation;
 pub mod notation;
 pub mod random;
+pub mod sample;
+pub mod side_by_side;
 pub mod table;

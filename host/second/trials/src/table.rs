@@ -2,6 +2,7 @@
 
 use crate::histories::Step;
 use std::collections::BTreeMap;
+use std::fmt;
 
 /// The methods, by number.
 pub const METHODS: [u8; 13] = [2, 3, 5, 8, 9, 10, 12, 50, 51, 80, 82, 83, 100];
@@ -15,6 +16,16 @@ pub enum Column {
 }
 
 use Column::{FirstForm, SecondForm, Status};
+
+impl fmt::Display for Column {
+    fn fmt(&self, f: &mut fmt::Formatter) -> fmt::Result {
+        match self {
+            Status(number) => f.pad(&number.to_string()),
+            FirstForm => f.pad("16 first"),
+            SecondForm => f.pad("16 rest"),
+        }
+    }
+}
 
 /// The order in which refusals come, and done at its end.
 pub const ORDER: [Column; 15] = [
@@ -107,20 +118,23 @@ impl Table {
         self.counts.keys().copied().filter(|&(method, column)| !allowed(method).contains(&column)).collect()
     }
 
+    /// What is wrong with the counts, in words: places that are missing or forbidden.
+    pub fn faults(&self) -> Vec<String> {
+        let told = |word: &str, places: Vec<(Option<u8>, Column)>| -> Vec<String> {
+            places.iter().map(|(method, column)| format!("{word}: method {} with {column}\n", name(*method))).collect()
+        };
+        [told("never met", self.missing()), told("met and not allowed", self.forbidden())].concat()
+    }
+
     /// The table as text; a dot is a place the paper does not allow.
     pub fn text(&self) -> String {
         let mut text = format!("{} steps\n{:>8}", self.steps, "method");
         for column in ORDER {
-            let name = match column {
-                Status(number) => number.to_string(),
-                FirstForm => "16 first".into(),
-                SecondForm => "16 rest".into(),
-            };
-            text += &format!("{name:>9}");
+            text += &format!("{column:>9}");
         }
         text += "\n";
         for method in rows() {
-            text += &format!("{:>8}", method.map_or("other".into(), |number| number.to_string()));
+            text += &format!("{:>8}", name(method));
             for column in ORDER {
                 let count = self.count(method, column);
                 let shown =
@@ -141,15 +155,14 @@ impl Table {
                 text += &format!("\n{intent:<44}");
                 last = intent;
             }
-            let name = match column {
-                Status(number) => number.to_string(),
-                FirstForm => "16a".into(),
-                SecondForm => "16b".into(),
-            };
-            text += &format!(" {name}:{count}");
+            text += &format!("  {column}: {count}");
         }
         text + "\n"
     }
+}
+
+fn name(method: Option<u8>) -> String {
+    method.map_or("other".into(), |number| number.to_string())
 }
 
 fn rows() -> impl Iterator<Item = Option<u8>> {

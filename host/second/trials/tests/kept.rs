@@ -10,13 +10,13 @@ use trials::table::{column_of, rank, Column, Table};
 
 const ON_SESSION: [u8; 8] = [3, 5, 8, 9, 10, 12, 50, 51];
 
-/// 100,000 steps over stores of 2 to 256 records, and as many over small ones.
+/// 60,000 steps over stores of 2 to 256 records, and as many over small ones.
 #[test]
 fn every_step() {
     for (seed, most_records) in [(11, 256), (12, 12)] {
         let mut table = Table::default();
         let mut events = Events::default();
-        for step in History::new(seed, most_records).take(100_000) {
+        for step in History::new(seed, most_records).take(60_000) {
             check(&step);
             table.add(&step);
             events.add(&step);
@@ -105,7 +105,7 @@ fn bag(store: &[u8]) -> Vec<Record> {
 #[test]
 fn places_do_not_matter() {
     let mut random = Random::new(77);
-    for step in History::new(13, 40).take(30_000) {
+    for step in History::new(13, 40).take(20_000) {
         let Some(found) = records(&step.before) else {
             continue;
         };

@@ -1,10 +1,8 @@
 //! The cases of "Both sides of each line" and the five slips, run as calls. (The cases about the text of PINs stand
 //! beside the code that reads it.)
 
+use builder::{Built, Close, CreateKey, CreatePinPolicy, CreatePuk, CreateSession, Issuer, Post, SetPath};
 use second::records::{handle, records, Fields, Record};
-use trials::builder::{
-    self, Built, Close, CreateKey, CreatePinPolicy, CreatePuk, CreateSession, Issuer, Post, SetPath,
-};
 use trials::crafted;
 
 /// A store with a hand on it.

@@ -39,17 +39,10 @@ fn main() -> ExitCode {
     if intents {
         print!("{}", table.intents_text());
     }
-    let (missing, forbidden) = (table.missing(), table.forbidden());
-    for (method, column) in &missing {
-        println!("never met: method {method:?}, {column:?}");
-    }
-    for (method, column) in &forbidden {
-        println!("not allowed: method {method:?}, {column:?}");
-    }
-    for event in events.missing() {
-        println!("never seen: {event}");
-    }
-    if missing.is_empty() && forbidden.is_empty() && events.missing().is_empty() {
+    let mut faults = table.faults();
+    faults.extend(events.missing().iter().map(|event| format!("never seen: {event}\n")));
+    print!("{}", faults.concat());
+    if faults.is_empty() {
         ExitCode::SUCCESS
     } else {
         ExitCode::FAILURE

@@ -3,8 +3,23 @@
 //! Every field is open and takes any value, also one out of its range, and the MAC is made over what stands there: so a
 //! call can be wrong in one field and right in all else. The layout is written down here once more and shares
 //! nothing with the reader of the store but the hash.
+//!
+//! ```
+//! use builder::{CreatePuk, Issuer};
+//!
+//! // The handle is from the reply to method 2; the chip made the key.
+//! let mut issuer = Issuer { session: 65_536, session_key: [7; 32], counter: 0 };
+//! let puk = CreatePuk { retry_limit: 5, ..CreatePuk::default() };
+//! let built = puk.build(&issuer);
+//! assert_eq!(built.call[..5], [8, 0, 1, 0, 0]);
+//! assert_eq!(built.chip, puk.value);
+//! // Once the call is answered with 0 the counter has moved, and the same call has another MAC.
+//! issuer.counter += 1;
+//! let (again, length) = (puk.build(&issuer), built.call.len());
+//! assert_eq!(again.call[..length - 32], built.call[..length - 32]);
+//! assert_ne!(again.call[length - 32..], built.call[length - 32..]);
+//! ```
 
-use crate::random::Random;
 use second::hmac::hmac;
 
 /// The algorithm of sessions.
@@ -345,87 +360,4 @@ impl Post {
 pub fn user(method: u8, key: u32, typed: &[&[u8]]) -> Built {
     let strings: Vec<u8> = typed.iter().flat_map(|text| string(text)).collect();
     Built { call: [&[method][..], &key.to_be_bytes(), &strings].concat(), chip: vec![] }
-}
-
-/// Ways to spoil the bytes of a call or its chip bytes without knowing their fields.
-#[derive(Clone, Copy, Debug, PartialEq, Eq)]
-pub enum Mutation {
-    CutCall,
-    CutChip,
-    LengthenCall,
-    LengthenChip,
-    FlipCall,
-    FlipChip,
-    FlipMac,
-    OtherMethod,
-    OtherHandle,
-    TooLong,
-    Noise,
-}
-
-/// All of them.
-pub const MUTATIONS: [Mutation; 11] = [
-    Mutation::CutCall,
-    Mutation::CutChip,
-    Mutation::LengthenCall,
-    Mutation::LengthenChip,
-    Mutation::FlipCall,
-    Mutation::FlipChip,
-    Mutation::FlipMac,
-    Mutation::OtherMethod,
-    Mutation::OtherHandle,
-    Mutation::TooLong,
-    Mutation::Noise,
-];
-
-/// Spoils a call.
-pub fn mutate(built: &mut Built, how: Mutation, random: &mut Random) {
-    match how {
-        Mutation::CutCall => cut(&mut built.call, random),
-        Mutation::CutChip => cut(&mut built.chip, random),
-        Mutation::LengthenCall => lengthen(&mut built.call, random),
-        Mutation::LengthenChip => lengthen(&mut built.chip, random),
-        Mutation::FlipCall => flip(&mut built.call, 0, random),
-        Mutation::FlipChip => flip(&mut built.chip, 0, random),
-        Mutation::FlipMac => {
-            let start = built.call.len().saturating_sub(32);
-            flip(&mut built.call, start, random);
-        }
-        Mutation::OtherMethod => {
-            if let Some(method) = built.call.first_mut() {
-                *method = random.pick(&[2, 3, 5, 8, 9, 10, 12, 50, 51, 80, 82, 83, 100]);
-            }
-        }
-        Mutation::OtherHandle => {
-            if built.call.len() >= 5 {
-                built.call[1 + random.below(4)] = random.pick(&[0, 1, 2, 3, 255]);
-            }
-        }
-        // Just over the longest call, or just at it.
-        Mutation::TooLong => built.call.resize(16_384 + random.below(2), 0),
-        Mutation::Noise => {
-            let (call, chip) = (random.below(80), random.below(40));
-            *built = Built { call: random.bytes(call), chip: random.bytes(chip) };
-        }
-    }
-}
-
-/// Mostly one byte less; now and then any shorter part.
-fn cut(bytes: &mut Vec<u8>, random: &mut Random) {
-    let length = if random.percent(50) { bytes.len().saturating_sub(1) } else { random.below(bytes.len().max(1)) };
-    bytes.truncate(length);
-}
-
-/// Mostly one byte more.
-fn lengthen(bytes: &mut Vec<u8>, random: &mut Random) {
-    let more = if random.percent(70) { 1 } else { random.between(2, 40) };
-    bytes.extend(random.bytes(more));
-}
-
-/// One bit of one byte from that place on.
-fn flip(bytes: &mut [u8], start: usize, random: &mut Random) {
-    if start < bytes.len() {
-        let place = random.between(start, bytes.len() - 1);
-        bytes[place] ^= 1 << random.below(8);
-    }
 }
