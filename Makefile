@@ -21,8 +21,8 @@ vectors: ## prove SHA-256 and HMAC, then run the examples of FIPS 180-4 and RFC 
 edits: ## try every must-fail edit, those too that the gate leaves out
 	scripts/edits
 
-bench: lib ## speed, stack and size against plain versions; writes docs/BENCH.md and its picture
-	sh bench/run
+bench: lib ## speed, stack and size against plain versions; writes docs/BENCH.md and its picture (LOG=what the gate printed, for seconds of proof)
+	sh bench/run $(LOG)
 
 fuzz: lib ## arbitrary bytes in all four buffers, for a minute (host/fuzz/run takes seconds); needs clang
 	host/fuzz/run 60

@@ -1,9 +1,7 @@
 /*
- * How fast the proved SHA-256 is, beside a plain C one (plain_sha256.c), in one run. The two are first held to the same
- * digests. Then messages of 1 MiB and of 64 bytes are hashed in rounds, in which the two take turns; each number is the best
- * round's, and the median round's. A ratio above 1 says that the proved one is faster. Time is the processor's.
- *
- * A proved hash under way holds 104 bytes: eight words of hash value (32), a block's buffer (64) and a count (8).
+ * How fast the proved SHA-256 is, beside a plain C one (plain_sha256.c) and, where CRYPTO is defined, that of the system's crypto library.
+ * All are first held to the same digests. Then messages of 1 MiB and of 64 bytes are hashed in rounds, in which they take turns.
+ * A line has the message, "best" or "median" of the rounds, and the megabytes a second of each. Time is the processor's.
  */
 #include <stdint.h>
 #include <stdio.h>
@@ -13,11 +11,34 @@
 
 #include "plain_sha256.h"
 
+#ifdef CRYPTO
+#define OPENSSL_SUPPRESS_DEPRECATED
+#include <openssl/sha.h>
+
+/* In three steps, for the one-shot function looks its method up anew each time. */
+static void crypto_sha256(const uint8_t *d, size_t n, uint8_t out[32])
+{
+    SHA256_CTX hash;
+    SHA256_Init(&hash);
+    SHA256_Update(&hash, d, n);
+    SHA256_Final(out, &hash);
+}
+#endif
+
 /* The proved one, of the static library hash_c. */
 void sks_sha256(const uint8_t *d, size_t n, uint8_t out[32]);
 
 typedef void hasher(const uint8_t *d, size_t n, uint8_t out[32]);
 
+static hasher *const hashers[] = {
+    sks_sha256,
+    plain_sha256,
+#ifdef CRYPTO
+    crypto_sha256,
+#endif
+};
+
+enum { HASHERS = sizeof hashers / sizeof hashers[0] };
 enum { MIB = 1 << 20, ROUNDS = 31 };
 
 static uint8_t message[MIB];
@@ -47,40 +68,40 @@ static int compare(const void *a, const void *b)
     return (x > y) - (x < y);
 }
 
-/* A line of the table: messages of n bytes, `times` of them a round. */
+/* The lines for messages of n bytes, `times` of them a round. Each round another one begins. */
 static void measure(const char *name, size_t n, int times)
 {
-    double ours[ROUNDS], plain[ROUNDS];
-    for (int r = 0; r < ROUNDS; r++) {
-        if (r % 2 == 0) {
-            ours[r] = timed(sks_sha256, n, times);
-            plain[r] = timed(plain_sha256, n, times);
-        } else {
-            plain[r] = timed(plain_sha256, n, times);
-            ours[r] = timed(sks_sha256, n, times);
+    double taken[HASHERS][ROUNDS];
+    for (int r = 0; r < ROUNDS; r++)
+        for (int k = 0; k < HASHERS; k++) {
+            int h = (r + k) % HASHERS;
+            taken[h][r] = timed(hashers[h], n, times);
         }
-    }
-    qsort(ours, ROUNDS, sizeof ours[0], compare);
-    qsort(plain, ROUNDS, sizeof plain[0], compare);
+    for (int h = 0; h < HASHERS; h++)
+        qsort(taken[h], ROUNDS, sizeof taken[h][0], compare);
     static const char *which[] = {"best", "median"};
     const int round[] = {0, ROUNDS / 2};
     for (int k = 0; k < 2; k++) {
-        double o = ours[round[k]], p = plain[round[k]];
-        printf("%-10s %-7s %10.1f %10.1f %12.0f %12.0f %8.2f\n", name, which[k], (double)n / o * 1e-6, (double)n / p * 1e-6,
-               o * 1e9, p * 1e9, p / o);
+        printf("%s\t%s", name, which[k]);
+        for (int h = 0; h < HASHERS; h++)
+            printf("\t%.1f", (double)n / taken[h][round[k]] * 1e-6);
+        printf("\n");
     }
 }
 
-/* Whether both give the same digest of the first n bytes of the message. */
+/* Whether all give the same digest of the first n bytes of the message. */
 static int agree(size_t n)
 {
-    uint8_t ours[32], plain[32];
-    sks_sha256(message, n, ours);
-    plain_sha256(message, n, plain);
-    if (memcmp(ours, plain, sizeof ours) == 0)
-        return 1;
-    printf("The digests of %zu bytes differ.\n", n);
-    return 0;
+    uint8_t first[32], other[32];
+    hashers[0](message, n, first);
+    for (int h = 1; h < HASHERS; h++) {
+        hashers[h](message, n, other);
+        if (memcmp(first, other, sizeof first) != 0) {
+            fprintf(stderr, "The digests of %zu bytes differ.\n", n);
+            return 0;
+        }
+    }
+    return 1;
 }
 
 int main(void)
@@ -90,20 +111,14 @@ int main(void)
         x = x * 1664525 + 1013904223;
         message[i] = (uint8_t)(x >> 24);
     }
-    int checked = 0, same = 1;
-    for (size_t n = 0; n <= 1024; n++, checked++)
+    int same = 1;
+    for (size_t n = 0; n <= 1024; n++)
         same &= agree(n);
-    for (size_t n = 4093; n <= MIB; n = n * 5 / 3, checked++)
+    for (size_t n = 4093; n <= MIB; n = n * 5 / 3)
         same &= agree(n);
-    same &= agree(MIB);
-    checked++;
-    if (!same)
+    if (!same || !agree(MIB))
         return 1;
-    printf("The proved SHA-256 and the plain C one agree on %d messages.\n\n", checked);
-    printf("%-18s %10s %10s %12s %12s %8s\n", "", "proved", "plain", "proved", "plain", "proved");
-    printf("%-10s %-7s %10s %10s %12s %12s %8s\n", "message", "round", "MB/s", "MB/s", "ns/message", "ns/message", "/ plain");
     measure("1 MiB", MIB, 4);
     measure("64 bytes", 64, 20000);
-    printf("\nA hash under way holds 104 bytes: 32 of hash value, 64 of buffer, 8 of count.\n");
     return 0;
 }

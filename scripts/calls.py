@@ -150,15 +150,31 @@ def outcome():
     return [user(None, 100, DOOR, b"2580"), user(None, 100, MAIL, b"7139", status=7)]
 
 
+def alone():
+    changes = [user(None, 83, DOOR, b"2508", new, status=status) for new, status in ((b"3456", 17), (b"8642", 1), (b"8642", 1))]
+    return (changes + [user("change", 83, DOOR, b"2580", b"8642")] + locking()
+            + [user(None, 100, DOOR, b"8642", status=1), user(None, 82, DOOR, b"31415962", status=1), user("unlock", 82, DOOR, b"31415926"),
+               user(None, 100, DOOR, b"8642"), user(None, 80, NEW_MAIL, b"7139", status=1), user("delete", 80, NEW_MAIL, b"")])
+
+
+def giving_up():
+    t, puk, policy = Tab(6), handle(6, 1), handle(6, 2)
+    return [t.open(), t.puk(None, b"puk", b"31415926", puk), t.policy(None, b"pin", puk, b"puk", policy),
+            t.key(None, b"locker", b"locker public key", policy, b"pin", b"6284", handle(6, 3)), t.post(None, 50, DOOR),
+            Step("abort", sks.abort(t.session), 0), user(None, 100, DOOR, b"8642")]
+
+
 def story():
-    """The story's calls by chapter. Chapter 7 goes on from where chapter 5 ended."""
+    """The story's calls by chapter. Chapter 7 goes on from where chapter 5 ended, chapter 9 from either order."""
     badge, desk = Tab(2), Tab(3)
     return {2: issuing(),
             3: locking() + [user(None, 100, DOOR, b"2580", status=1)],
             4: queueing(badge, desk) + closing(badge, desk),
             5: locking() + [Tab(4).open(), Tab(5).open()],
             6: replacing(Tab(4)) + unlocking(Tab(5)) + outcome(),
-            7: unlocking(Tab(5)) + replacing(Tab(4)) + outcome()}
+            7: unlocking(Tab(5)) + replacing(Tab(4)) + outcome(),
+            9: alone(),
+            10: giving_up()}
 
 
 def issuer_sets():
@@ -173,11 +189,8 @@ def runs():
     """Lists of calls, each from a fresh store: the story in its two orders, and the asides."""
     c = story()
     start = c[2] + c[3] + c[4] + c[5]
-    return [start + c[6], start + c[7], issuer_sets(),
-            c[2] + c[3] + c[4][:4] + [Step("abort", sks.abort(handle(2)), 0)],
-            c[2] + [user("delete", 80, MAIL, b""), user("gone", 83, MAIL, b"", b"", status=7)],
-            c[2] + c[3] + [user("unlock", 82, DOOR, b"31415926")],
-            c[2] + [user("there", 83, DOOR, b"", b"", status=17), user("change", 83, DOOR, b"2580", b"8642")]]
+    return [start + c[6] + c[9] + c[10], start + c[7] + c[9] + c[10], issuer_sets(),
+            c[2] + [user("there", 83, DOOR, b"", b"", status=17), user(None, 80, MAIL, b""), user("gone", 83, MAIL, b"", b"", status=7)]]
 
 
 # ---- the blocks
@@ -276,7 +289,7 @@ def texts(step):
     """The texts in a step's call and chip bytes, but for IDs of sessions."""
     fields = cut(step.call, f"method:1 {CALL[step.method]}") + cut(step.chip, CHIP.get(step.method, ""))
     found = {v[2:] if width == "s" else v for _, width, v in fields if width in ("s", "*")}
-    return {t.decode() for t in found if not re.fullmatch(rb"[SC][1-5]", t)}
+    return {t.decode() for t in found if not re.fullmatch(rb"[SC][1-6]", t)}
 
 
 def faults():

@@ -361,12 +361,46 @@ fn close(store: &mut [u8], t: Tab, words: &[u8]) {
     say_attested(counted(t, 1), nonce, r);
 }
 
+// Method 5.
+fn abort(store: &mut [u8], t: Tab, words: &[u8]) {
+    let c = begin(t, words, 5, b"abortProvisioningSession");
+    send(store, c, empty());
+    say(b"\n");
+}
+
+// A step of the user begins with its words and its method. Its call begins with the method's number and the key's handle.
+fn begin_alone(words: &[u8], method: u8, name: &[u8], link: &[u8], key: u32) -> Draft {
+    tell(Who::User, words);
+    say_method(method, name);
+    say_handle(link, key);
+    four(byte(empty(), method), key)
+}
+
+// Method 80. A key with DeleteProtection 0 asks for no Authorization, and takes none.
+fn delete_key(store: &mut [u8], words: &[u8], key: u32, authorization: &[u8]) {
+    let c = begin_alone(words, 80, b"deleteKey", b" for key ", key);
+    send(store, string(c, authorization), empty());
+    say(b"\n");
+}
+
+// Method 82.
+fn unlock_key(store: &mut [u8], words: &[u8], key: u32, puk: &[u8]) {
+    let c = begin_alone(words, 82, b"unlockKey", b" for key ", key);
+    send(store, string(c, puk), empty());
+    say(b"\n");
+}
+
+// Method 83.
+fn change_pin(store: &mut [u8], words: &[u8], key: u32, pin: &[u8], new_pin: &[u8]) {
+    let c = begin_alone(words, 83, b"changePIN", b" for key ", key);
+    send(store, string(string(c, pin), new_pin), empty());
+    say(b"\n");
+}
+
 // Method 100. The chip signs if the store says 0.
 fn use_key(store: &mut [u8], words: &[u8], key: u32, pin: &[u8]) {
-    tell(Who::User, words);
-    say_method(100, b"signHashedData");
-    say_handle(b" with key ", key);
-    send(store, string(four(byte(empty(), 100), key), pin), empty());
+    let c = begin_alone(words, 100, b"signHashedData", b" with key ", key);
+    send(store, string(c, pin), empty());
     say(b"\n");
 }
 
@@ -457,13 +491,8 @@ fn formatting(store: &mut [u8]) {
 }
 
 // A session with a PUK and a PIN policy in it.
-fn policies(store: &mut [u8]) -> Tab {
-    let mut t = open(
-        store,
-        Who::Issuer,
-        b"opens a session. With its KeyManagementKey it can sign for a removal or an unlock of its keys later.",
-        b'1',
-    );
+fn policies(store: &mut [u8], words: &[u8], digit: u8) -> Tab {
+    let mut t = open(store, Who::Issuer, words, digit);
     t = make_puk(
         store,
         t,
@@ -541,7 +570,11 @@ fn handing_over(store: &mut [u8], t: Tab, door: u32) {
 
 fn issuing(store: &mut [u8]) -> Keys {
     chapter(b"2. An issuer gives its user two keys");
-    let t = policies(store);
+    let t = policies(
+        store,
+        b"opens a session. With its KeyManagementKey it can sign for a removal or an unlock of its keys later.",
+        b'1',
+    );
     let d = door_key(store, t, t.made);
     let m = mail_key(store, d, t.made);
     handing_over(store, m, d.made);
@@ -645,8 +678,8 @@ fn opening(store: &mut [u8], door: u32) -> Tabs {
     }
 }
 
-// The badge office's calls on the mail key.
-fn replacing(store: &mut [u8], tab: Tab, mail: u32) {
+// The badge office's calls on the mail key. What comes back is the new one's handle.
+fn replacing(store: &mut [u8], tab: Tab, mail: u32) -> u32 {
     let mut t = post_delete(store, tab, b"queues the removal of the mail key.", mail);
     t = issue_key(
         store,
@@ -663,6 +696,7 @@ fn replacing(store: &mut [u8], tab: Tab, mail: u32) {
         t,
         b"closes. The old mail key is removed, and the new one is the user's.",
     );
+    t.made
 }
 
 // The help desk's calls on the door key.
@@ -682,11 +716,13 @@ fn outcome(store: &mut [u8], keys: Keys) {
     look(store);
 }
 
-fn badge_first(store: &mut [u8], tabs: Tabs, keys: Keys) {
+// What comes back is the new mail key's handle.
+fn badge_first(store: &mut [u8], tabs: Tabs, keys: Keys) -> u32 {
     chapter(b"6. The badge office goes first");
-    replacing(store, tabs.badge, keys.mail);
+    let new_mail = replacing(store, tabs.badge, keys.mail);
     unlocking(store, tabs.desk, keys.door);
     outcome(store, keys);
+    new_mail
 }
 
 fn desk_first(store: &mut [u8], tabs: Tabs, keys: Keys) {
@@ -710,6 +746,125 @@ fn compare(a: &[u8], b: &[u8]) {
     }
 }
 
+// 17 comes before a wrong PIN and is not counted, or the fourth call would find the key locked.
+fn new_pin(store: &mut [u8], door: u32) {
+    change_pin(
+        store,
+        b"wants 3456 as the door key's PIN, and types 2508 for 2580. The policy forbids a run: 17 comes first, and costs no try.",
+        door,
+        b"2508",
+        b"3456",
+    );
+    change_pin(
+        store,
+        b"wants 8642 instead, and types 2508 again. This time it costs a try.",
+        door,
+        b"2508",
+        b"8642",
+    );
+    change_pin(
+        store,
+        b"types 2508 once more. One try is left.",
+        door,
+        b"2508",
+        b"8642",
+    );
+    change_pin(
+        store,
+        b"types 2580. The PIN is 8642 now, and all three tries are back.",
+        door,
+        b"2580",
+        b"8642",
+    );
+}
+
+fn by_puk(store: &mut [u8], door: u32) {
+    unlock_key(
+        store,
+        b"types 31415962 as the PUK, with two digits swapped. A PUK has tries of its own, and this costs one of its three.",
+        door,
+        b"31415962",
+    );
+    unlock_key(
+        store,
+        b"types the PUK, 31415926. The key is unlocked, and no issuer was asked.",
+        door,
+        b"31415926",
+    );
+    use_key(store, b"opens the door with 8642.", door, b"8642");
+}
+
+fn deleting(store: &mut [u8], mail: u32) {
+    delete_key(
+        store,
+        b"deletes the new mail key, and types 7139. No PIN and no PUK guards its deletion, so whatever is typed is wrong.",
+        mail,
+        b"7139",
+    );
+    delete_key(
+        store,
+        b"deletes it, and types nothing. It is gone, and so is its session, which had no other key.",
+        mail,
+        b"",
+    );
+    look(store);
+}
+
+fn alone(store: &mut [u8], door: u32, mail: u32) {
+    chapter(b"9. What the user can do alone");
+    new_pin(store, door);
+    lock(store, door);
+    use_key(store, b"types 8642. The key is locked.", door, b"8642");
+    by_puk(store, door);
+    deleting(store, mail);
+}
+
+// A session that makes a key and queues the removal of another, and is left open.
+fn drafting(store: &mut [u8], door: u32) -> Tab {
+    let mut t = policies(
+        store,
+        b"opens a session, to give the user a locker key in place of the door key.",
+        b'6',
+    );
+    t = make_key(
+        store,
+        t,
+        b"makes the locker key under that policy. The user picks 6284.",
+        b"locker",
+        b"locker public key",
+        t.made,
+        b"pin",
+        b"6284",
+    );
+    t = post_delete(store, t, b"queues the removal of the door key.", door);
+    look(store);
+    t
+}
+
+fn giving_up(store: &mut [u8], door: u32) {
+    chapter(b"10. An issuer gives up");
+    let t = drafting(store, door);
+    abort(
+        store,
+        t,
+        b"aborts the session. All that it has made is gone, and so is what it has queued.",
+    );
+    use_key(store, b"opens the door with 8642.", door, b"8642");
+    look(store);
+}
+
+// The counter has the first place: it went on, for no session's number is given twice.
+fn compare_rest(before: &[u8], after: &[u8]) {
+    if slices::same(
+        part_of(before, 256, 15 * 256),
+        part_of(after, 256, 15 * 256),
+    ) {
+        say(b"But for the counter, every byte is as it was before that session.\n");
+    } else {
+        say(b"OTHER BYTES\n");
+    }
+}
+
 fn main() {
     let mut store = io::buffer();
     preface();
@@ -719,7 +874,11 @@ fn main() {
     one_key(&mut store, keys.door);
     let tabs = opening(&mut store, keys.door);
     let mut copy = store;
-    badge_first(&mut store, tabs, keys);
+    let new_mail = badge_first(&mut store, tabs, keys);
     desk_first(&mut copy, tabs, keys);
     compare(&store, &copy);
+    alone(&mut store, keys.door, new_mail);
+    let before = store;
+    giving_up(&mut store, keys.door);
+    compare_rest(&before, &store);
 }
