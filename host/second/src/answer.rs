@@ -85,14 +85,19 @@ pub fn format(store: &mut [u8]) -> u8 {
 /// The order of refusals is 21, 19, 16 (method known, call length), 5 (session calls), 16 (the rest, and chip bytes),
 /// 8, 7, 17, 20, 1, 3, 4, 6, 2. The first four stand here, the others in `methods`.
 pub fn call(store: &mut [u8], call: &[u8], chip: &[u8], reply: &mut [u8]) -> u8 {
+    call_with(sound, store, call, chip, reply)
+}
+
+/// The same with another test of soundness, which has to say the same of every store: to time it beside this one.
+pub fn call_with(sound: fn(&[u8]) -> bool, store: &mut [u8], call: &[u8], chip: &[u8], reply: &mut [u8]) -> u8 {
     let Some(reply) = reply.first_chunk_mut::<REPLY>() else {
         return Status::ShortReply as u8;
     };
-    let outcome = decide(store, call, chip);
+    let outcome = decide(sound, store, call, chip);
     write(reply, outcome)
 }
 
-fn decide(store: &mut [u8], call: &[u8], chip: &[u8]) -> Outcome {
+fn decide(sound: fn(&[u8]) -> bool, store: &mut [u8], call: &[u8], chip: &[u8]) -> Outcome {
     if !sound(store) {
         return Err(Status::Unsound);
     }

@@ -32,5 +32,5 @@ pub mod records;
 pub mod sha256;
 pub mod soundness;
 
-pub use answer::{call, format};
+pub use answer::{call, call_with, format};
 pub use soundness::sound;
