@@ -8,7 +8,7 @@ story: ## prove the token, then tell the story of two tabs and one key, call by 
 	rt check story
 	./target/bin/story
 
-test: ## everything: proofs, must-fail edits, programs, the tests around the library (the merge gate)
+test: ## all proofs, the chosen must-fail edits, programs, the tests around the library (the merge gate)
 	bash .ci/run
 
 lib: ## prove the token and make target/staticlib/libtoken.a, for C and Rust (include/sks.h)
