@@ -1,7 +1,8 @@
-/* The token's store as two C functions. They stand in libtoken.a, which `rt staticlib token` makes. */
+/* The token's store as C functions: two, and a test. They stand in libtoken.a, which `rt staticlib token` makes. */
 #ifndef SKS_H
 #define SKS_H
 
+#include <stdbool.h>
 #include <stddef.h>
 #include <stdint.h>
 
@@ -24,7 +25,7 @@ extern "C" {
 #define SKS_REPLY_ATTESTATION 5
 
 /*
- * What both functions return. Every status of a call but SKS_SHORT_REPLY also stands in byte 0 of the reply, and all but SKS_DONE
+ * What sks_format and sks_call return. Every status of a call but SKS_SHORT_REPLY also stands in byte 0 of the reply, and all but SKS_DONE
  * have zeros in the other 36. "Ends the session" means: a refused session call removes its session with all its records and no other
  * record, while a refused user call or method 2 changes nothing.
  */
@@ -72,6 +73,9 @@ uint8_t sks_format(uint8_t *store, size_t store_len);
 /* Answers one call: changes the store, writes the first 37 bytes of the reply and leaves its later bytes, and returns the status. */
 uint8_t sks_call(uint8_t *store, size_t store_len, const uint8_t *call, size_t call_len, const uint8_t *chip, size_t chip_len,
                  uint8_t *reply, size_t reply_len);
+
+/* Whether the store is sound: a call over any other is told SKS_UNSOUND. It reads the store alone. */
+bool sks_sound(const uint8_t *store, size_t store_len);
 
 #ifdef __cplusplus
 }

@@ -57,7 +57,7 @@ int main(void)
     uint8_t formatted, created;
 
     formatted = sks_format(store, sizeof store);
-    printf("format: status %u\n", formatted);
+    printf("format: status %u, %s\n", formatted, sks_sound(store, sizeof store) ? "sound" : "unsound");
 
     create_session(&c, &chip);
     created = sks_call(store, sizeof store, c.bytes, c.len, chip.bytes, chip.len, reply, sizeof reply);

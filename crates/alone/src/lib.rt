@@ -1,7 +1,7 @@
 // The clauses of soundness that speak of one record, each as the paper's statement of it, and all of them together.
-use slices::all_within;
 use slices::byte_at;
 use slices::four_at;
+use slices::is_blank;
 use slices::part_of;
 use slices::two_at;
 ghost use mathlib.Core.Path.{_≡_};
@@ -65,7 +65,7 @@ fn no_digest(r: &[u8]) -> bool
     if byte_at(r, 1) != 0 {
         return true;
     }
-    all_within(part_of(r, 179, 32), 0, 0)
+    is_blank(part_of(r, 179, 32))
 }
 
 fn key_wiped(r: &[u8]) -> bool
@@ -77,7 +77,7 @@ fn key_wiped(r: &[u8]) -> bool
     if byte_at(r, 1) != 2 {
         return true;
     }
-    all_within(part_of(r, 82, 32), 0, 0)
+    is_blank(part_of(r, 82, 32))
 }
 
 fn target_unless_stale(r: &[u8]) -> bool
@@ -88,12 +88,31 @@ fn target_unless_stale(r: &[u8]) -> bool
     !(byte_at(r, 0) == 5) | ((!stale | none) & (!none | stale))
 }
 
-// Whether a record by itself is as a sound store's records are.
+// Whether a record by itself is as a sound store's records are: it obeys the table, and the clauses that speak of its kind hold.
 pub fn is_alone(r: &[u8]) -> bool
     ensures { λ b. ⌜ b ≡ test (alone (now (r .entry))) ⌝ }
 {
-    let wiped = no_digest(r) & (key_wiped(r) & target_unless_stale(r));
-    let counts = puk_counts(r) & (mac_counts(r) & (lengths_rise(r) & wiped));
-    let keys = bare_key(r) & (pinned_key(r) & counts);
-    fields::obeys(r) & (session_carries(r) & (object_carries(r) & keys))
+    if !fields::obeys(r) {
+        return false;
+    }
+    let k = byte_at(r, 0);
+    if k == 1 {
+        return session_carries(r) & (mac_counts(r) & key_wiped(r));
+    }
+    if !object_carries(r) {
+        return false;
+    }
+    if k == 2 {
+        return puk_counts(r);
+    }
+    if k == 3 {
+        return lengths_rise(r);
+    }
+    if k == 4 {
+        return bare_key(r) & (pinned_key(r) & no_digest(r));
+    }
+    if k == 5 {
+        return target_unless_stale(r);
+    }
+    true
 }

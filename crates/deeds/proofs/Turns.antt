@@ -6,18 +6,23 @@ use Prim.Native.Nat.{ℕ, suc, _+_, _/_, _≤_, _<_}
 use native.Mathlib.Numerals.{add-one}
 use native.Mathlib.Omega.{arith}
 use lib.ListN.{length, getD, take, drop, set, drop-of-length-le}
-use lib.Seq.{drop-cons, take-all, take-suc-set, drop-set-lt}
+use lib.Seq.{drop-cons, take-all, take-suc-set, drop-set-lt, set-getD}
 use Rattle.paper.specs.Form.{Rec, say, only}
 use Rattle.paper.specs.Records.{records, zeros}
 use Rattle.records.specs.View.{rest, Becomes}
 use Rattle.records.proofs.Views.{length-records, becomes, rest-kept}
-use Rattle.edits.proofs.Puts.{edit-at}
-use Rattle.deeds.specs.Deeds.{eachAt}
+use Rattle.edits.proofs.Puts.{edit-at, unchanged}
+use Rattle.deeds.specs.Deeds.{eachAt, done}
 
 -- a record changed by value and put back
 pub turned-at : (f : Rec → Rec) (s : List ℕ) (i : ℕ) (r t : List ℕ) → r ≡ f (getD (records s) i zeros) → Becomes (set (records s) i r) s t
     → Becomes (set (records s) i (f (getD (records s) i []))) s t
 turned-at f s i r t e w = (unfold only in edit-at (λ x. say true) f s i r t refl e w)
+
+-- by 0 a record stays
+pub stayed-at : (v : List ℕ) (n : ℕ) (s : List ℕ) (i : ℕ) → n ≡ 0 → Becomes (set (records s) i (done v n (getD (records s) i []))) s s
+unfolding done
+stayed-at v n s i e = rw (e, set-getD (records s) i []) (unchanged s)
 
 module _ (g : ℕ → Rec → Rec) (rs : List Rec) (i : ℕ) where
   all-done : length rs ≤ i → take i rs ++ eachAt g i (drop i rs) ≡ rs

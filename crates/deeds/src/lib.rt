@@ -84,10 +84,13 @@ fn turned(r: [u8; 256], n: u8, v: &[u8]) -> [u8; 256]
     }
 }
 
-// Record i becomes what the number n says.
+// Record i becomes what the number n says. Most stay, and are not touched.
 fn turn_at(s: &mut [u8], i: usize, n: u8, v: &[u8])
     ensures { λ _. ⌜ Becomes (set (records (now (s .entry))) i (done (now (v .entry)) n (getD (records (now (s .entry))) i []))) (now (s .entry)) (now (s .exit)) ⌝ }
 {
+    if n == 0 {
+        return;
+    }
     let r = turned(copy_of(s, i), n, v);
     put(s, i, &r);
 }

@@ -35,7 +35,7 @@ module _ (v : List ℕ) (rs : List Rec) (r : Rec) where
       go false false false true = refl
       go false false false false = refl
 
-  pub close-done : (t : ℕ) → done v (closeFate t rs r) r ≡ closing t rs r
+  pub close-done : (t : ℕ) → done v (closeFate t (fate (holds t 50 rs) (holds t 51 rs) rs r) rs r) r ≡ closing t rs r
   unfolding done closeFate closing sealed
   close-done t = go (test (bears t r)) (test (kind r == PENDING)) (test (kind r == SESSION)) (test (hasKey t rs)) (fate (holds t 50 rs) (holds t 51 rs) rs r) (effect (holds t 50 rs) (holds t 51 rs) rs r) (effect-done (holds t 50 rs) (holds t 51 rs))
     where

@@ -1,16 +1,15 @@
 // The table of records as a test of one record: a function for each form of field, and for each kind its fields in the table's order.
 // A sound record passes every test, so the tests of a kind are all made and joined without a branch.
-use slices::all_within;
 use slices::byte_at;
 use slices::four_at;
 use slices::is_within;
 use slices::part_of;
-use slices::size_at;
-use slices::text_at;
 use slices::two_at;
 ghost use mathlib.Core.Path.{_≡_};
+ghost use mathlib.Core.Bool.{_&&_};
 ghost use Prim.Native.Nat.{_≤_};
-ghost use Rattle.paper.specs.Table.{u8 as Byte, u16 as Two, u32 as Four, blank, text, ident, right, fits, sessionFields, pukFields, policyFields, keyFields, pendingFields, counterFields, fieldsOf, obeysTable};
+ghost use lib.ListN.{length, take, drop};
+ghost use Rattle.paper.specs.Table.{u8 as Byte, u16 as Two, u32 as Four, blank, text, ident, isBlank, printable, right, fits, sessionFields, pukFields, policyFields, keyFields, pendingFields, counterFields, fieldsOf, obeysTable};
 
 fn is_byte(r: &[u8], i: usize, lo: u8, hi: u8) -> bool
     ensures { λ b. ⌜ b ≡ right (Byte lo hi) i (now (r .entry)) ⌝ }
@@ -35,28 +34,56 @@ fn is_four(r: &[u8], i: usize, lo: u32, hi: u32) -> bool
 fn is_blank(r: &[u8], i: usize, n: usize) -> bool
     ensures { λ b. ⌜ b ≡ right (blank n) i (now (r .entry)) ⌝ }
 {
-    all_within(part_of(r, i, n), 0, 0)
+    slices::is_blank(part_of(r, i, n))
 }
 
-fn is_text(r: &[u8], i: usize, n: usize, lo: usize) -> bool
+// Whether the bytes behind the first v are 0. A field is gone through to its end whatever v is, and the place is counted once more in a
+// byte, as v is one: so 16 places are compared with v at a time.
+fn blank_behind(s: &[u8], v: u8) -> bool
+    requires { ⌜ length (now s) ≤ 255 ⌝ }
+    ensures { λ b. ⌜ b ≡ isBlank (drop v (now (s .entry))) ⌝ }
+{
+    let mut bad = false;
+    let mut p: u8 = 0;
+    let mut i: usize = 0;
+    while i < s.len() {
+        bad = bad | ((v <= p) & (s[i] != 0));
+        p += 1;
+        i += 1;
+    }
+    !bad
+}
+
+// Whether the first v bytes are those of an ID as well.
+fn ident_then_blank(s: &[u8], v: u8) -> bool
+    requires { ⌜ length (now s) ≤ 255 ⌝ }
+    ensures { λ b. ⌜ b ≡ isBlank (drop v (now (s .entry))) && printable (take v (now (s .entry))) ⌝ }
+{
+    let mut bad = false;
+    let mut p: u8 = 0;
+    let mut i: usize = 0;
+    while i < s.len() {
+        bad = bad | (((p < v) & !is_within(s[i], 0x21, 0x7e)) | ((v <= p) & (s[i] != 0)));
+        p += 1;
+        i += 1;
+    }
+    !bad
+}
+
+fn is_text(r: &[u8], i: usize, n: u8, lo: u8) -> bool
     requires { ⌜ i ≤ 255 ⌝ }
     ensures { λ b. ⌜ b ≡ right (text n lo) i (now (r .entry)) ⌝ }
 {
-    let v = size_at(r, i);
-    if v < lo {
-        return false;
-    }
-    if n < v {
-        return false;
-    }
-    is_blank(r, i + 1 + v, n - v)
+    let v = byte_at(r, i);
+    is_within(v, lo, n) & blank_behind(part_of(r, i + 1, n as usize), v)
 }
 
-fn is_ident(r: &[u8], i: usize, n: usize, lo: usize) -> bool
+fn is_ident(r: &[u8], i: usize, n: u8, lo: u8) -> bool
     requires { ⌜ i ≤ 255 ⌝ }
     ensures { λ b. ⌜ b ≡ right (ident n lo) i (now (r .entry)) ⌝ }
 {
-    is_text(r, i, n, lo) & all_within(text_at(r, i), 0x21, 0x7e)
+    let v = byte_at(r, i);
+    is_within(v, lo, n) & ident_then_blank(part_of(r, i + 1, n as usize), v)
 }
 
 fn fits_session(r: &[u8]) -> bool

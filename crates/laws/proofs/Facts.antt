@@ -27,7 +27,7 @@ pub record Alone (r : Rec) : Type 0 where
   pub keyWiped : Fact (keyWiped r)
   pub targetUnlessStale : Fact (targetUnlessStale r)
 
-alone-of : (r : Rec) → Fact (alone r) → Alone r
+pub alone-of : (r : Rec) → Fact (alone r) → Alone r
 alone-of r (a, (b, (c, (d, (e, (f, (g, (h, (i, (j, k)))))))))) =
     record {
       tabled = a;
@@ -74,7 +74,7 @@ pub record Related (x y : Rec) : Type 0 where
   pub targetManaged : Fact (targetManaged x y)
   pub targetPinned : Fact (targetPinned x y)
 
-related-of : (x y : Rec) → Fact (related x y) → Related x y
+pub related-of : (x y : Rec) → Fact (related x y) → Related x y
 related-of x y (a, (b, (c, (d, (e, (f, (g, h))))))) =
     record {
       belowNext = a;

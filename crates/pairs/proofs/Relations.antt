@@ -1,14 +1,15 @@
 -- What the first record's kind leaves of the clauses about one record and another.
-use mathlib.Core.Bool.{Bool, true, false, not, _||_}
+use mathlib.Core.Bool.{Bool, true, false, not, _&&_, _||_}
 use lib.Dec.{eqb}
 use mathlib.Core.Path.{_≡_, refl, sym, _∙_}
 use mathlib.Core.List.{List}
 use mathlib.Core.Logic.{_⊎_, inl, inr}
 use Prim.Native.Nat.{ℕ, _≤_}
 use native.Mathlib.Omega.{arith}
-use Rattle.paper.specs.Form.{Rec, Form, test, Fact}
-use Rattle.paper.specs.Records.{kind, own, parent, operation, SESSION, POLICY, KEY, PENDING, COUNTER}
-use Rattle.paper.specs.Sound.{isObject, related, targetPinned, belowCounter}
+use borrow.Author.Tests.{ne-eqb}
+use Rattle.paper.specs.Form.{Rec, Form, _and_, test, Fact}
+use Rattle.paper.specs.Records.{kind, own, session, parent, operation, SESSION, POLICY, KEY, PENDING, COUNTER}
+use Rattle.paper.specs.Sound.{hasId, oneCounter, handlesDiffer, clientsDiffer, distinct, isObject, related, targetPinned, belowCounter}
 use Rattle.paper.proofs.Forms.{both, contrary}
 use Rattle.pairs.specs.Kinds.{ofSession, ofPolicy, concerned}
 
@@ -136,3 +137,18 @@ module _ (x y : Rec) where
   pub key-near : kind y ≡ PENDING
       → test (targetPinned x y) ≡ (not (eqb (kind x) KEY) || (not (eqb (parent y) (own x)) || (not (eqb (operation y) 51) || not (eqb (parent x) 0))))
   key-near e = rw e
+
+-- two records of different sessions
+past : (a b : Bool) → (not a || (not b || true)) ≡ true
+past true true = refl
+past true false = refl
+past false b = refl
+
+and-true : (a : Bool) → (a && true) ≡ a
+and-true true = refl
+and-true false = refl
+
+pub apart-distinct : (x y : Rec) → (session x ≡ session y → ⊥)
+    → test (oneCounter x y and handlesDiffer x y and clientsDiffer x y) ≡ test (distinct x y)
+apart-distinct x y n =
+    rw (ne-eqb (session x) (session y) n, past (test (hasId x)) (test (hasId y)), past (eqb (kind x) PENDING) (eqb (kind y) PENDING), and-true (test (clientsDiffer x y)))

@@ -6,7 +6,7 @@ use slices::four_at;
 use slices::part_of;
 use slices::two_at;
 ghost use mathlib.Core.Path.{_≡_};
-ghost use Rattle.paper.specs.Form.{test};
+ghost use Rattle.paper.specs.Form.{test, _and_};
 ghost use Rattle.paper.specs.Sound.{hasHandle, hasId, oneCounter, handlesDiffer, idsDiffer, clientsDiffer, onePending, distinct, belowNext, belowCounter, governs, pukForProtection, keyCounts, pathsSet, pendingOpen, targetManaged, targetPinned, related, closed};
 ghost use Rattle.pairs.specs.Kinds.{ofSession, ofPolicy, concerned};
 
@@ -74,10 +74,20 @@ fn one_pending(x: &[u8], y: &[u8]) -> bool
         | (!(four_at(x, 8) == four_at(y, 8)) | (!(p == four_at(y, 12)) | (p == 0)))
 }
 
+// Two records of different sessions can clash by their handles alone, as two sessions, or as two counters.
+fn are_apart(x: &[u8], y: &[u8]) -> bool
+    ensures { λ b. ⌜ b ≡ test (oneCounter (now (x .entry)) (now (y .entry)) and handlesDiffer (now (x .entry)) (now (y .entry)) and clientsDiffer (now (x .entry)) (now (y .entry))) ⌝ }
+{
+    one_counter(x, y) & (handles_differ(x, y) & clients_differ(x, y))
+}
+
 // Whether two records at different places are as two of a sound store.
 pub fn are_distinct(x: &[u8], y: &[u8]) -> bool
     ensures { λ b. ⌜ b ≡ test (distinct (now (x .entry)) (now (y .entry))) ⌝ }
 {
+    if four_at(x, 8) != four_at(y, 8) {
+        return are_apart(x, y);
+    }
     let names = ids_differ(x, y) & (clients_differ(x, y) & one_pending(x, y));
     one_counter(x, y) & (handles_differ(x, y) & names)
 }
@@ -145,7 +155,10 @@ pub fn is_governed(x: &[u8], y: &[u8]) -> bool
     if byte_at(y, 0) != 4 {
         return false;
     }
-    (four_at(y, 12) == four_at(x, 4)) & (four_at(y, 8) == four_at(x, 8))
+    if four_at(y, 12) != four_at(x, 4) {
+        return false;
+    }
+    four_at(y, 8) == four_at(x, 8)
 }
 
 fn policy_related(x: &[u8], y: &[u8]) -> bool
@@ -154,9 +167,11 @@ fn policy_related(x: &[u8], y: &[u8]) -> bool
     if byte_at(y, 0) != 4 {
         return true;
     }
-    let free = !is_governed(x, y);
+    if !is_governed(x, y) {
+        return true;
+    }
     let guarded = !(byte_at(y, 3) == 2) | (four_at(x, 12) != 0);
-    (free | guarded) & (free | (byte_at(y, 2) <= byte_at(x, 2)))
+    guarded & (byte_at(y, 2) <= byte_at(x, 2))
 }
 
 fn target_pinned(x: &[u8], y: &[u8]) -> bool

@@ -1,1 +1,4 @@
 pub mod Scans
+pub mod Gather
+pub mod Filled
+pub mod Near

@@ -1,5 +1,5 @@
 -- A loop that looks for a record: what is left of the search at a place and one place further.
-use mathlib.Core.Bool.{Bool, true, false, _&&_}
+use mathlib.Core.Bool.{Bool, true, false, _&&_, _||_}
 use mathlib.Core.Path.{_≡_, refl, ap}
 use mathlib.Core.List.{List, [], _∷_}
 use Prim.Native.Nat.{ℕ, _+_, _/_, _≤_, _<_}
@@ -13,6 +13,9 @@ use Rattle.plans.specs.declared.Lot.the-variants.{Unlocked}
 use Rattle.plans.specs.Sets.{policySo}
 
 module _ (φ : Rec → Form) (s : List ℕ) (i : ℕ) where
+  pub some-split : i < length s / 256 → test (some (drop i (records s)) φ) ≡ (test (φ (getD (records s) i [])) || test (some (drop (i + 1) (records s)) φ))
+  some-split h = rw (records-from s i h)
+
   pub some-here : i < length s / 256 → test (φ (getD (records s) i [])) ≡ true → test (some (drop i (records s)) φ) ≡ true
   some-here h t = rw (records-from s i h, t)
 

@@ -6,7 +6,7 @@ use Prim.Native.Nat.{ℕ, zero, suc}
 use borrow.Author.Tests.{le-leb, lt-leb, ne-eqb}
 use native.Mathlib.Omega.{arith}
 use lib.Dec.{eqb, leb}
-use lib.ListN.{length, replicate, length-replicate}
+use lib.ListN.{length, getD, replicate, length-replicate}
 use Rattle.hmac.specs.Same.{same}
 use Rattle.hmac.proofs.Sameness.{same-eq, test-same}
 use Rattle.paper.specs.Bytes.{within, allWithin, zerosOf}
@@ -28,3 +28,8 @@ free-blank r h = blank-same r ∙ rw h
 pub not-free : (r : List ℕ) → (length r ≡ 256 → ⊥) → false ≡ isFree r
 unfolding isFree zeros
 not-free r h = test-same r (zerosOf 256) false (λ t. cc) (λ e. absurd (h (ap length e ∙ length-replicate {A = ℕ} 256 0)))
+
+-- whose first byte is not 0
+pub taken-first : (r : List ℕ) → (getD r 0 0 ≡ 0 → ⊥) → false ≡ isFree r
+unfolding isFree zeros
+taken-first r h = test-same r (zerosOf 256) false (λ t. cc) (λ e. absurd (h (ap (λ l. getD l 0 0) e)))

@@ -1,8 +1,8 @@
 // A lent store as records. `record_at` alone shows where a record stands; every test is of one record, and a look-up goes from the
 // first record to the last. Nothing is asked of the store: past its last whole record a record is empty, and every byte of it reads 0.
-use slices::all_within;
 use slices::byte_at;
 use slices::four_at;
+use slices::is_blank;
 ghost use mathlib.Core.Path.{_≡_};
 ghost use mathlib.Core.List.{[]};
 ghost use lib.ListN.{length, getD};
@@ -129,7 +129,10 @@ pub fn is_free(r: &[u8]) -> bool
     if r.len() != 256 {
         return false;
     }
-    all_within(r, 0, 0)
+    if r[0] != 0 {
+        return false;
+    }
+    is_blank(r)
 }
 
 pub fn is_chosen(r: &[u8], c: Choice) -> bool

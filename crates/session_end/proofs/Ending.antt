@@ -5,6 +5,7 @@ use mathlib.Core.List.{List, map}
 use mathlib.Core.Option.{none}
 use Prim.Native.Nat.{ℕ}
 use lib.Dec.{eqb}
+use borrow.Author.Tests.{ne-eqb}
 use Rattle.paper.specs.Form.{Rec, Form, _==_, _and_, test, some, exists, only}
 use Rattle.paper.specs.Records.{records, kind, SESSION, PUK, POLICY, KEY, own, session, parent, at, block, bears, zeros}
 use Rattle.paper.specs.Sound.{child, childless}
@@ -44,6 +45,21 @@ pub childless-at : (t : ℕ) (rs : List Rec) (y : Rec) → session y ≡ t
     → test (childless (block t rs) y)
     ≡ ((eqb (kind y) PUK && not (test (some rs (chosen (Child POLICY (own y) t))))) || (eqb (kind y) POLICY && not (test (some rs (chosen (Child KEY (own y) t))))))
 childless-at t rs y e = rw (child-at t POLICY rs y e, child-at t KEY rs y e)
+
+or-false : (b : Bool) → (b || false) ≡ b
+or-false true = refl
+or-false false = refl
+
+-- a PUK, a policy, and any other record
+module _ (t : ℕ) (rs : List Rec) (y : Rec) (e : session y ≡ t) where
+  pub childless-puk : kind y ≡ PUK → not (test (some rs (chosen (Child POLICY (own y) t)))) ≡ test (childless (block t rs) y)
+  childless-puk k = sym (childless-at t rs y e ∙ rw k (or-false _))
+
+  pub childless-policy : kind y ≡ POLICY → not (test (some rs (chosen (Child KEY (own y) t)))) ≡ test (childless (block t rs) y)
+  childless-policy k = sym (childless-at t rs y e ∙ rw k)
+
+  pub childless-other : (kind y ≡ PUK → ⊥) → (kind y ≡ POLICY → ⊥) → false ≡ test (childless (block t rs) y)
+  childless-other p q = sym (childless-at t rs y e ∙ rw (ne-eqb (kind y) PUK p, ne-eqb (kind y) POLICY q))
 
 module _ (c chip : List ℕ) (rs : List Rec) {n : ℕ} (told : n ≡ status (faults3 c chip rs)) where
   pub ended-not : (n ≡ 0 → ⊥) → ended c chip rs ≡ perform (subject c) (refuse n) rs

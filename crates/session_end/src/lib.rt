@@ -45,20 +45,22 @@ fn is_childless(s: &[u8], t: u32, r: &[u8]) -> bool
         return false;
     }
     let k = byte_at(r, 0);
-    let o = four_at(r, 4);
-    either(
-        both(k == 2, !has(s, Choice::Child(3, o, t))),
-        both(k == 3, !has(s, Choice::Child(4, o, t))),
-    )
+    if k == 2 {
+        return !has(s, Choice::Child(3, four_at(r, 4), t));
+    }
+    if k == 3 {
+        return !has(s, Choice::Child(4, four_at(r, 4), t));
+    }
+    false
 }
 
 fn is_marked(r: &[u8], t: u32, kind: u8, at: u8, mark: u8) -> bool
     ensures { λ b. ⌜ b ≡ test (bearsIt t (now (r .entry)) and (kindOf (now (r .entry)) == kind and byte at (now (r .entry)) == mark)) ⌝ }
 {
-    both(
-        bears(r, t),
-        both(byte_at(r, 0) == kind, byte_at(r, at as usize) == mark),
-    )
+    if !bears(r, t) {
+        return false;
+    }
+    both(byte_at(r, 0) == kind, byte_at(r, at as usize) == mark)
 }
 
 fn is_flawed(s: &[u8], t: u32, f: Flaw, r: &[u8]) -> bool

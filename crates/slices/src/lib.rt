@@ -55,12 +55,10 @@ pub fn four_at(s: &[u8], k: usize) -> u32
         return 0;
     }
     if s.len() - k < 4 {
-        return join4(
-            byte_at(s, k),
-            byte_at(s, k + 1),
-            byte_at(s, k + 2),
-            byte_at(s, k + 3),
-        );
+        let d = byte_at(s, k + 3);
+        let c = byte_at(s, k + 2);
+        let b = byte_at(s, k + 1);
+        return join4(byte_at(s, k), b, c, d);
     }
     join4(s[k], s[k + 1], s[k + 2], s[k + 3])
 }
@@ -107,28 +105,37 @@ pub fn behind_at(s: &[u8], k: u32) -> usize
     at + 2 + two_at(s, at)
 }
 
-// Whether each byte lies between lo and hi, both included.
-pub fn all_within(s: &[u8], lo: u8, hi: u8) -> bool
-    ensures { λ r. ⌜ r ≡ allWithin lo hi (now (s .entry)) ⌝ }
-{
-    let mut i: usize = 0;
-    while i < s.len() {
-        if !is_within(s[i], lo, hi) {
-            return false;
-        }
-        i += 1;
-    }
-    true
-}
-
-// Whether a byte does.
+// Whether a byte lies between lo and hi, both included.
 pub fn is_within(b: u8, lo: u8, hi: u8) -> bool
     ensures { λ r. ⌜ r ≡ within lo hi b ⌝ }
 {
-    if b < lo {
-        return false;
+    (lo <= b) & (b <= hi)
+}
+
+// Whether each byte does. It goes on past a byte that does not: without that branch 16 bytes are tested at a time.
+pub fn all_within(s: &[u8], lo: u8, hi: u8) -> bool
+    ensures { λ r. ⌜ r ≡ allWithin lo hi (now (s .entry)) ⌝ }
+{
+    let mut ok = true;
+    let mut i: usize = 0;
+    while i < s.len() {
+        ok = ok & is_within(s[i], lo, hi);
+        i += 1;
     }
-    b <= hi
+    ok
+}
+
+// Whether each byte is 0: then so are all of them joined by OR.
+pub fn is_blank(s: &[u8]) -> bool
+    ensures { λ r. ⌜ r ≡ allWithin 0 0 (now (s .entry)) ⌝ }
+{
+    let mut seen: u8 = 0;
+    let mut i: usize = 0;
+    while i < s.len() {
+        seen = seen | s[i];
+        i += 1;
+    }
+    seen == 0
 }
 
 // Whether two slices hold the same bytes. It ends at the first difference, so it is for IDs and not for secrets.

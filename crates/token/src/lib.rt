@@ -177,7 +177,15 @@ pub fn call<'a>(store: &mut [u8], call: &'a [u8], chip: &'a [u8], reply: &mut [u
     r.status
 }
 
-// The same two for C: a slice is passed as a pointer, then a length.
+// For C, where a slice is passed as a pointer, then a length: whether the store is sound, for firmware that wants to know it without a
+// call, and the same two functions.
+#[no_mangle]
+pub extern "C" fn sks_sound(store: &[u8]) -> bool
+    ensures { λ b. ⌜ b ≡ isSound (now (store .entry)) ⌝ }
+{
+    sound::is_sound(store)
+}
+
 #[no_mangle]
 pub extern "C" fn sks_format(store: &mut [u8]) -> u8
     ensures { λ r. ⌜ made r (now (store .exit)) ≡ formatted (now (store .entry)) ⌝ }

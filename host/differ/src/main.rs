@@ -104,6 +104,9 @@ fn one_byte_changed() -> Result<String, String> {
         {
             let mut store = sound.clone();
             store[place] = value;
+            if sks::is_sound(&store) != second::sound(&store) {
+                return Err(format!("sks_sound and the second implementation differ with {value} at place {place}"));
+            }
             let step = run(&order, store, 37);
             same_answer(&step)?;
             all += 1;

@@ -1,4 +1,4 @@
-//! A safe binding to the token's store: the two C functions of `libtoken.a`, over lent slices.
+//! A safe binding to the token's store: the C functions of `libtoken.a`, over lent slices.
 //!
 //! A store is 2 to 256 records of 256 bytes, which the caller owns and lends for the length of a call. Any bytes may be
 //! handed in, as store, call, chip bytes or reply: the functions behind this binding are proved to return for all of
@@ -9,6 +9,7 @@
 //! | [`format()`] | makes a fresh store |
 //! | [`call`] | answers one call, into a reply buffer of any length |
 //! | [`ask`] | the same, with the reply taken apart |
+//! | [`is_sound`] | says whether a call over a store would get further than [`Status::UNSOUND`] |
 //! | [`Status`], [`Handle`], [`Reply`] | what comes back |
 //!
 //! The package `builder` beside this one writes calls with their MACs, for tests; `examples/two_tabs.rs` is a story of
@@ -29,6 +30,7 @@ pub const REPLY: usize = 37;
 mod library {
     unsafe extern "C" {
         pub fn sks_format(store: *mut u8, store_length: usize) -> u8;
+        pub fn sks_sound(store: *const u8, store_length: usize) -> bool;
         pub fn sks_call(
             store: *mut u8,
             store_length: usize,
@@ -58,6 +60,20 @@ mod library {
 pub fn format(store: &mut [u8]) -> Status {
     // SAFETY: pointer and length are those of a slice that is lent for this call, and the function takes any bytes.
     Status(unsafe { library::sks_format(store.as_mut_ptr(), store.len()) })
+}
+
+/// Whether a store is sound. A call over any other is told [`Status::UNSOUND`]; this asks the same without a call.
+///
+/// ```
+/// let mut store = [0xff; 512];
+/// assert!(!sks::is_sound(&store));
+/// sks::format(&mut store);
+/// assert!(sks::is_sound(&store));
+/// assert!(!sks::is_sound(&store[..511]));
+/// ```
+pub fn is_sound(store: &[u8]) -> bool {
+    // SAFETY: pointer and length are those of a slice that is lent for this call, and the function takes any bytes.
+    unsafe { library::sks_sound(store.as_ptr(), store.len()) }
 }
 
 /// Answers one call, which changes the store and writes the first 37 bytes of the reply.

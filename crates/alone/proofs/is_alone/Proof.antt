@@ -1,25 +1,49 @@
--- The clauses joined in the paper's order.
+-- A record that breaks the table is not right; of one that obeys it, the clauses of its kind are left (OfKind.antt).
+use mathlib.Core.Path.{_∙_, sym}
+use borrow.Author.Tests.{not-true, not-false}
+use Rattle.alone.proofs.OfKind.{untabled, of-session, carried-wrong, of-puk, of-policy, of-key, of-pending, of-others}
 use borrow.Author.Needs.{needs}
 use Rattle.alone.proofs.is_alone.Statement.{statement}
 use Rattle.alone.proofs.is_alone.Tie as tie
 
-no-digest-requires : tie.Need-no-digest-requires
-no-digest-requires c κs = search needs
+obeys-requires : tie.Need-obeys-requires
+obeys-requires c κs = search needs
 
-key-wiped-requires : tie.Need-key-wiped-requires
-key-wiped-requires c κs = search needs
+returns : tie.Need-returns
+returns c = sym (untabled _ (sym (c .before .obeys .ensures) ∙ not-true _ (c .if1 .taken)))
 
-target-unless-stale-requires : tie.Need-target-unless-stale-requires
-target-unless-stale-requires c κs = search needs
+byte-at-requires : tie.Need-byte-at-requires
+byte-at-requires c κs = search needs
 
-puk-counts-requires : tie.Need-puk-counts-requires
-puk-counts-requires c κs = search needs
+session-carries-requires : tie.Need-session-carries-requires
+session-carries-requires c κs = search needs
 
 mac-counts-requires : tie.Need-mac-counts-requires
 mac-counts-requires c κs = search needs
 
+key-wiped-requires : tie.Need-key-wiped-requires
+key-wiped-requires c κs = search needs
+
+returns-2 : tie.Need-returns-2
+returns-2 c = rw (c .before .before .session-carries .ensures, c .before .mac-counts .ensures, c .key-wiped .ensures) (sym (of-session _ (sym (c .before .before .before .before .before .before .obeys .ensures) ∙ not-false _ (c .before .before .before .before .before .if1 .left)) (sym (c .before .before .before .before .byte-at .ensures) ∙ c .before .before .before .if2 .taken)))
+
+object-carries-requires : tie.Need-object-carries-requires
+object-carries-requires c κs = search needs
+
+returns-3 : tie.Need-returns-3
+returns-3 c = sym (carried-wrong _ (sym (c .before .before .before .before .before .obeys .ensures) ∙ not-false _ (c .before .before .before .before .if1 .left)) (λ e. c .before .before .if2 .left (c .before .before .before .byte-at .ensures ∙ e)) (sym (c .before .object-carries .ensures) ∙ not-true _ (c .if3 .taken)))
+
+puk-counts-requires : tie.Need-puk-counts-requires
+puk-counts-requires c κs = search needs
+
+returns-4 : tie.Need-returns-4
+returns-4 c = c .puk-counts .ensures ∙ sym (of-puk _ (sym (c .before .before .before .before .before .before .before .obeys .ensures) ∙ not-false _ (c .before .before .before .before .before .before .if1 .left)) (sym (c .before .before .before .object-carries .ensures) ∙ not-false _ (c .before .before .if3 .left)) (sym (c .before .before .before .before .before .byte-at .ensures) ∙ c .before .if4 .taken))
+
 lengths-rise-requires : tie.Need-lengths-rise-requires
 lengths-rise-requires c κs = search needs
+
+returns-5 : tie.Need-returns-5
+returns-5 c = c .lengths-rise .ensures ∙ sym (of-policy _ (sym (c .before .before .before .before .before .before .before .before .obeys .ensures) ∙ not-false _ (c .before .before .before .before .before .before .before .if1 .left)) (sym (c .before .before .before .before .object-carries .ensures) ∙ not-false _ (c .before .before .before .if3 .left)) (sym (c .before .before .before .before .before .before .byte-at .ensures) ∙ c .before .if5 .taken))
 
 bare-key-requires : tie.Need-bare-key-requires
 bare-key-requires c κs = search needs
@@ -27,31 +51,42 @@ bare-key-requires c κs = search needs
 pinned-key-requires : tie.Need-pinned-key-requires
 pinned-key-requires c κs = search needs
 
-obeys-requires : tie.Need-obeys-requires
-obeys-requires c κs = search needs
+no-digest-requires : tie.Need-no-digest-requires
+no-digest-requires c κs = search needs
 
-session-carries-requires : tie.Need-session-carries-requires
-session-carries-requires c κs = search needs
+returns-6 : tie.Need-returns-6
+returns-6 c = rw (c .before .before .bare-key .ensures, c .before .pinned-key .ensures, c .no-digest .ensures) (sym (of-key _ (sym (c .before .before .before .before .before .before .before .before .before .before .before .obeys .ensures) ∙ not-false _ (c .before .before .before .before .before .before .before .before .before .before .if1 .left)) (sym (c .before .before .before .before .before .before .before .object-carries .ensures) ∙ not-false _ (c .before .before .before .before .before .before .if3 .left)) (sym (c .before .before .before .before .before .before .before .before .before .byte-at .ensures) ∙ c .before .before .before .if6 .taken)))
 
-object-carries-requires : tie.Need-object-carries-requires
-object-carries-requires c κs = search needs
+target-unless-stale-requires : tie.Need-target-unless-stale-requires
+target-unless-stale-requires c κs = search needs
 
-returns : tie.Need-returns
-returns c = rw (c .before .before .before .before .before .before .before .puk-counts .ensures, c .before .before .before .before .before .before .mac-counts .ensures, c .before .before .before .before .before .lengths-rise .ensures, c .before .before .before .before .before .before .before .before .before .before .no-digest .ensures, c .before .before .before .before .before .before .before .before .before .key-wiped .ensures, c .before .before .before .before .before .before .before .before .target-unless-stale .ensures, c .before .before .before .before .bare-key .ensures, c .before .before .before .pinned-key .ensures, c .before .before .obeys .ensures, c .before .session-carries .ensures, c .object-carries .ensures)
+returns-7 : tie.Need-returns-7
+returns-7 c = c .target-unless-stale .ensures ∙ sym (of-pending _ (sym (c .before .before .before .before .before .before .before .before .before .before .obeys .ensures) ∙ not-false _ (c .before .before .before .before .before .before .before .before .before .if1 .left)) (sym (c .before .before .before .before .before .before .object-carries .ensures) ∙ not-false _ (c .before .before .before .before .before .if3 .left)) (sym (c .before .before .before .before .before .before .before .before .byte-at .ensures) ∙ c .before .if7 .taken))
+
+returns-8 : tie.Need-returns-8
+returns-8 c = sym (of-others _ (sym (c .before .before .before .before .before .before .before .before .before .obeys .ensures) ∙ not-false _ (c .before .before .before .before .before .before .before .before .if1 .left)) (sym (c .before .before .before .before .before .object-carries .ensures) ∙ not-false _ (c .before .before .before .before .if3 .left)) (λ e. c .before .before .before .before .before .before .if2 .left (c .before .before .before .before .before .before .before .byte-at .ensures ∙ e)) (λ e. c .before .before .before .if4 .left (c .before .before .before .before .before .before .before .byte-at .ensures ∙ e)) (λ e. c .before .before .if5 .left (c .before .before .before .before .before .before .before .byte-at .ensures ∙ e)) (λ e. c .before .if6 .left (c .before .before .before .before .before .before .before .byte-at .ensures ∙ e)) (λ e. c .if7 .left (c .before .before .before .before .before .before .before .byte-at .ensures ∙ e)))
 
 pub is-alone-spec : {M : Type 1} → statement M
 is-alone-spec =
     tie.close
     (tie.spec
-    no-digest-requires
-    key-wiped-requires
-    target-unless-stale-requires
-    puk-counts-requires
+    obeys-requires
+    returns
+    byte-at-requires
+    session-carries-requires
     mac-counts-requires
+    key-wiped-requires
+    returns-2
+    object-carries-requires
+    returns-3
+    puk-counts-requires
+    returns-4
     lengths-rise-requires
+    returns-5
     bare-key-requires
     pinned-key-requires
-    obeys-requires
-    session-carries-requires
-    object-carries-requires
-    returns)
+    no-digest-requires
+    returns-6
+    target-unless-stale-requires
+    returns-7
+    returns-8)

@@ -20,11 +20,11 @@ returns-2 c = rw (← c .before .before .before .byte-at .ensures, eq-eqb _ _ (c
 part-of-requires : tie.Need-part-of-requires
 part-of-requires c κs = search needs
 
-all-within-requires : tie.Need-all-within-requires
-all-within-requires c κs = search needs
+is-blank-requires : tie.Need-is-blank-requires
+is-blank-requires c κs = search needs
 
 returns-3 : tie.Need-returns-3
-returns-3 c = rw (← c .before .before .before .before .before .byte-at .ensures, eq-eqb _ _ (c .before .before .before .before .if1 .left), ← c .before .before .before .byte-at2 .ensures, eq-eqb _ _ (c .before .before .if2 .left)) (c .all-within .ensures ∙ rw (c .before .part-of .ensures))
+returns-3 c = rw (← c .before .before .before .before .before .byte-at .ensures, eq-eqb _ _ (c .before .before .before .before .if1 .left), ← c .before .before .before .byte-at2 .ensures, eq-eqb _ _ (c .before .before .if2 .left)) (c .is-blank .ensures ∙ rw (c .before .part-of .ensures))
 
 pub no-digest-spec : {M : Type 1} → statement M
 no-digest-spec =
@@ -35,5 +35,5 @@ no-digest-spec =
     byte-at-requires-2
     returns-2
     part-of-requires
-    all-within-requires
+    is-blank-requires
     returns-3)

@@ -1,20 +1,17 @@
 -- Whose record it is, and then its kind.
 use Rattle.fates.specs.Outcome.{closeFate}
-use borrow.Author.Needs.{needs}
 use borrow.Author.Tests.{not-false, not-true}
 use mathlib.Core.Path.{_∙_, sym}
+use borrow.Author.Needs.{needs}
 use Rattle.fates.proofs.close_fate.Statement.{statement}
 use Rattle.fates.proofs.close_fate.Tie as tie
 
 bears-requires : tie.Need-bears-requires
 bears-requires c κs = search needs
 
-fate-of-requires : tie.Need-fate-of-requires
-fate-of-requires c κs = search needs
-
 returns : tie.Need-returns
 unfolding closeFate
-returns c = rw (sym (c .before .before .bears .ensures) ∙ not-true _ (c .before .if1 .taken)) (c .fate-of .ensures)
+returns c = rw (sym (c .before .bears .ensures) ∙ not-true _ (c .if1 .taken))
 
 is-kind-requires : tie.Need-is-kind-requires
 is-kind-requires c κs = search needs
@@ -46,7 +43,6 @@ close-fate-spec =
     tie.close
     (tie.spec
     bears-requires
-    fate-of-requires
     returns
     is-kind-requires
     returns-2

@@ -1,20 +1,31 @@
--- The key itself, or one of its group.
-use borrow.Author.Needs.{needs}
+-- A key; then the key itself, or one of its group.
 use mathlib.Core.Path.{_∙_, sym}
+use borrow.Author.Tests.{not-true}
+use Rattle.fates.proofs.Planning.{not-given}
+use mathlib.Core.List.{[]}
+use borrow.Author.Needs.{needs}
 use Rattle.fates.proofs.is_given.Statement.{statement}
 use Rattle.fates.proofs.is_given.Tie as tie
+
+is-kind-requires : tie.Need-is-kind-requires
+is-kind-requires c κs = search needs
+
+returns : tie.Need-returns
+returns c = sym (not-given (c .before .before .before .before .before .args .x .now) (c .before .before .before .before .before .args .pol .now) [] (c .before .before .before .before .before .args .r .now) (sym (c .before .is-kind .ensures) ∙ not-true _ (c .if1 .taken)))
 
 is-the-key-requires : tie.Need-is-the-key-requires
 is-the-key-requires c κs = search needs
 
-returns : tie.Need-returns
-returns c = rw (sym (c .before .is-the-key .ensures) ∙ c .if1 .taken)
+returns-2 : tie.Need-returns-2
+returns-2 c = rw (sym (c .before .is-the-key .ensures) ∙ c .if2 .taken)
 
 is-grouped-requires : tie.Need-is-grouped-requires
 is-grouped-requires c κs = search needs
 
-returns-2 : tie.Need-returns-2
-returns-2 c = rw (sym (c .before .before .is-the-key .ensures) ∙ c .before .if1 .left) (c .is-grouped .ensures)
+returns-3 : tie.Need-returns-3
+returns-3 c = rw (sym (c .before .before .is-the-key .ensures) ∙ c .before .if2 .left) (c .is-grouped .ensures)
 
 pub is-given-spec : {M : Type 1} → statement M
-is-given-spec = tie.close (tie.spec is-the-key-requires returns is-grouped-requires returns-2)
+is-given-spec =
+    tie.close
+    (tie.spec is-kind-requires returns is-the-key-requires returns-2 is-grouped-requires returns-3)

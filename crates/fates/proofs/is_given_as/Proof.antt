@@ -1,21 +1,26 @@
--- Whether it gets the PIN, and then its handle.
+-- Its handle, which is read at once, and then whether it gets the PIN.
+use Prim.Native.Nat.{ℕ}
+use Rattle.paper.specs.Form.{test}
+use Rattle.paper.specs.Users.{givenPin}
+use Rattle.plans.proofs.Near.{and-false, and-true}
 use borrow.Author.Needs.{needs}
-use borrow.Author.Tests.{not-false, not-true}
-use mathlib.Core.Path.{_∙_, sym}
+use borrow.Author.Tests.{eq-eqb, ne-eqb}
+use lib.Dec.{eqb}
+use mathlib.Core.Path.{_∙_, ap, sym}
 use Rattle.fates.proofs.is_given_as.Statement.{statement}
 use Rattle.fates.proofs.is_given_as.Tie as tie
-
-is-given-requires : tie.Need-is-given-requires
-is-given-requires c κs = search needs
-
-returns : tie.Need-returns
-returns c = rw (sym (c .before .is-given .ensures) ∙ not-true _ (c .if1 .taken))
 
 four-at-requires : tie.Need-four-at-requires
 four-at-requires c κs = search needs
 
+returns : tie.Need-returns
+returns c = rw (ap (λ (n : ℕ). eqb n (c .before .before .before .before .before .args .key)) (sym (c .before .four-at .ensures)) ∙ ne-eqb _ _ (c .if1 .taken)) (sym (and-false (test (givenPin (c .before .before .before .before .before .args .x .now) (c .before .before .before .before .before .args .pol .now) (c .before .before .before .before .before .args .y .now)))))
+
+is-given-requires : tie.Need-is-given-requires
+is-given-requires c κs = search needs
+
 returns-2 : tie.Need-returns-2
-returns-2 c = rw (sym (c .before .before .is-given .ensures) ∙ not-false _ (c .before .if1 .left), c .four-at .ensures)
+returns-2 c = rw (ap (λ (n : ℕ). eqb n (c .before .before .before .before .before .before .args .key)) (sym (c .before .before .four-at .ensures)) ∙ eq-eqb _ _ (c .before .if1 .left)) (c .is-given .ensures ∙ sym (and-true _))
 
 pub is-given-as-spec : {M : Type 1} → statement M
-is-given-as-spec = tie.close (tie.spec is-given-requires returns four-at-requires returns-2)
+is-given-as-spec = tie.close (tie.spec four-at-requires returns is-given-requires returns-2)

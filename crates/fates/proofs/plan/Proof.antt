@@ -1,57 +1,48 @@
--- Invariant: the numbers of the first i records are at their places (`planned-step`).
-use Prim.Native.Nat.{_-_, _/_, _<_, _≤_}
-use Rattle.fates.proofs.Planning.{Planned, planned-done, planned-step}
-use Rattle.fates.specs.Outcome.{deedFate}
+-- Each deed has its own loop.
 use Rattle.paper.specs.Records.{records}
-use Rattle.records.proofs.Views.{length-records}
+use Rattle.plans.proofs.Filled.{fits-plan}
+use Rattle.fates.specs.Outcome.{deedFate}
 use borrow.Author.Needs.{needs}
-use lib.ListN.{length}
-use mathlib.Core.Path.{refl}
-use native.Mathlib.Omega.{arith}
 use Rattle.fates.proofs.plan.Statement.{statement}
 use Rattle.fates.proofs.plan.Tie as tie
 
-abbrev Inv-loop : tie.InvT-loop
-Inv-loop store d p₀ n i₀ p i = Planned (deedFate d (records store)) (records store) p i
+enum-known-d : tie.Need-enum-known-d
+enum-known-d c = search needs
 
-abbrev μ-loop : tie.MeasureT-loop
-μ-loop store d p₀ n i₀ p i = length store / 256 - i
+plan-of-requires : tie.Need-plan-of-requires
+plan-of-requires c κs = search needs
 
-loop-holds : tie.Need-loop-holds Inv-loop μ-loop
-loop-holds c = record { long = refl; at = λ j l. absurd (omega arith) }
+enum-known-d-2 : tie.Need-enum-known-d-2
+enum-known-d-2 c = search needs
 
-record-at-requires : tie.Need-record-at-requires Inv-loop μ-loop
-record-at-requires c κs = search needs
+plan-close-requires : tie.Need-plan-close-requires
+plan-close-requires c κs = search needs
 
-fate-requires : tie.Need-fate-requires Inv-loop μ-loop
-fate-requires c κs = search needs
+enum-known-d-3 : tie.Need-enum-known-d-3
+enum-known-d-3 c = search needs
 
-array-write-p : tie.Need-array-write-p Inv-loop μ-loop
-array-write-p c = search needs
+plan-change-requires : tie.Need-plan-change-requires
+plan-change-requires c κs = search needs
 
-add-i : tie.Need-add-i Inv-loop μ-loop
-add-i c = search needs
+returns : tie.Need-returns
+returns c = rw (c .before .before .d .given .1) (fits-plan _ (c .before .before .before .before .before .args .store .now) _ (c .before .before .before .before .before .pre) (c .plan-of .ensures))
 
-loop-less : tie.Need-loop-less Inv-loop μ-loop
-loop-less c = search needs
+returns-2 : tie.Need-returns-2
+returns-2 c = rw (c .before .before .d2 .given .1) (c .plan-close .ensures)
 
-loop-again : tie.Need-loop-again Inv-loop μ-loop
-loop-again c = let h : c .before .before .before .loop .i < 256 = omega (arith, c .before .before .before .before .before .pre) in planned-step (c .before .before .before .loop .inv) _ h (rw (← c .before .record-at .ensures) (c .fate .ensures))
-
-returns : tie.Need-returns Inv-loop μ-loop
-returns c = let h : length (records (c .before .before .before .args .store .now)) ≤ c .before .loop .i = omega (arith, length-records (c .before .before .before .args .store .now)) in planned-done (c .before .loop .inv) h
+returns-3 : tie.Need-returns-3
+returns-3 c = rw (c .before .before .d3 .given .1) (c .plan-change .ensures)
 
 pub plan-spec : {M : Type 1} → statement M
 plan-spec =
     tie.close
     (tie.spec
-    Inv-loop
-    μ-loop
-    loop-holds
-    record-at-requires
-    fate-requires
-    array-write-p
-    add-i
-    loop-less
-    loop-again
-    returns)
+    enum-known-d
+    plan-of-requires
+    enum-known-d-2
+    plan-close-requires
+    enum-known-d-3
+    plan-change-requires
+    returns
+    returns-2
+    returns-3)

@@ -1,19 +1,39 @@
--- The text's form, and the range of its bytes.
+-- The length has its range, what is left of the field is zero, and the bytes have their range (`ident-field`).
+use Prim.Native.Nat.{_+_}
+use Rattle.paper.specs.Bytes.{byte, textAt}
+use Rattle.fields.proofs.Padded.{field-length, ident-field}
 use borrow.Author.Needs.{needs}
 use Rattle.fields.proofs.is_ident.Statement.{statement}
 use Rattle.fields.proofs.is_ident.Tie as tie
 
-is-text-requires : tie.Need-is-text-requires
-is-text-requires c κs = search needs
+byte-at-requires : tie.Need-byte-at-requires
+byte-at-requires c κs = search needs
 
-text-at-requires : tie.Need-text-at-requires
-text-at-requires c κs = search needs
+is-within-requires : tie.Need-is-within-requires
+is-within-requires c κs = search needs
 
-all-within-requires : tie.Need-all-within-requires
-all-within-requires c κs = search needs
+add-part-of : tie.Need-add-part-of
+add-part-of c = search needs
+
+part-of-requires : tie.Need-part-of-requires
+part-of-requires c κs = search needs
+
+ident-then-blank-requires : tie.Need-ident-then-blank-requires
+ident-then-blank-requires c κs = rw (c .part-of .ensures) (field-length _ _ _ (search needs))
 
 returns : tie.Need-returns
-returns c = rw (c .before .before .is-text .ensures, c .all-within .ensures, c .before .text-at .ensures)
+unfolding textAt
+returns c =
+    let a = c .before .before .before .before .before .args in
+    rw (c .before .before .is-within .ensures, c .ident-then-blank .ensures, c .before .part-of .ensures, c .before .before .before .byte-at .ensures) (ident-field (a .i + 1) (a .n) (a .lo) (byte (a .i) (a .r .now)) (a .r .now))
 
 pub is-ident-spec : {M : Type 1} → statement M
-is-ident-spec = tie.close (tie.spec is-text-requires text-at-requires all-within-requires returns)
+is-ident-spec =
+    tie.close
+    (tie.spec
+    byte-at-requires
+    is-within-requires
+    add-part-of
+    part-of-requires
+    ident-then-blank-requires
+    returns)

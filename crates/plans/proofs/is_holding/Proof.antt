@@ -1,21 +1,23 @@
--- The pending itself, and then its operation.
+-- The pending itself, and then its key.
+use Rattle.plans.proofs.Gather.{holding-is}
 use borrow.Author.Needs.{needs}
 use borrow.Author.Tests.{not-false, not-true}
 use mathlib.Core.Path.{_∙_, sym}
 use Rattle.plans.proofs.is_holding.Statement.{statement}
 use Rattle.plans.proofs.is_holding.Tie as tie
 
-is-held-requires : tie.Need-is-held-requires
-is-held-requires c κs = search needs
+is-pending-requires : tie.Need-is-pending-requires
+is-pending-requires c κs = search needs
 
 returns : tie.Need-returns
-returns c = rw (sym (c .before .is-held .ensures) ∙ not-true _ (c .if1 .taken))
+returns c = rw (holding-is (c .before .before .before .args .session) (c .before .before .before .args .op) (c .before .before .before .args .key) (c .before .before .before .args .q .now), sym (c .before .is-pending .ensures) ∙ not-true _ (c .if1 .taken))
 
-byte-at-requires : tie.Need-byte-at-requires
-byte-at-requires c κs = search needs
+four-at-requires : tie.Need-four-at-requires
+four-at-requires c κs = search needs
 
 returns-2 : tie.Need-returns-2
-returns-2 c = rw (sym (c .before .before .is-held .ensures) ∙ not-false _ (c .before .if1 .left), c .byte-at .ensures)
+returns-2 c = rw (holding-is (c .before .before .before .before .args .session) (c .before .before .before .before .args .op) (c .before .before .before .before .args .key) (c .before .before .before .before .args .q .now), sym (c .before .before .is-pending .ensures) ∙ not-false _ (c .before .if1 .left), c .four-at .ensures)
 
 pub is-holding-spec : {M : Type 1} → statement M
-is-holding-spec = tie.close (tie.spec is-held-requires returns byte-at-requires returns-2)
+is-holding-spec =
+    tie.close (tie.spec is-pending-requires returns four-at-requires returns-2)

@@ -2,23 +2,24 @@
 use Prim.Native.Nat.{_-_, _/_}
 use Rattle.paper.specs.Form.{some, test}
 use Rattle.paper.specs.Records.{records}
+use Rattle.paper.specs.Closing.{Keys as Set}
 use Rattle.plans.proofs.Scans.{some-end, some-here, some-next}
-use Rattle.plans.specs.Sets.{keysOf, policySo}
+use Rattle.plans.specs.Sets.{policySo, Marked}
 use Rattle.records.proofs.Places.{told}
-use borrow.Author.Needs.{needs}
 use lib.ListN.{drop, length}
 use mathlib.Core.Path.{_∙_, _≡_, refl, sym}
+use borrow.Author.Needs.{needs}
 use Rattle.plans.proofs.some_policy.Statement.{statement}
 use Rattle.plans.proofs.some_policy.Tie as tie
 
 abbrev Inv-loop : tie.InvT-loop
-Inv-loop store ks own session l n i₀ i = test (some (records store) (policySo (keysOf ks (records store)) (records store) own session l)) ≡ test (some (drop i (records store)) (policySo (keysOf ks (records store)) (records store) own session l))
+Inv-loop store m own session l n i₀ i = (d : Set) → Marked d (records store) m → test (some (records store) (policySo d (records store) own session l)) ≡ test (some (drop i (records store)) (policySo d (records store) own session l))
 
 abbrev μ-loop : tie.MeasureT-loop
-μ-loop store ks own session l n i₀ i = length store / 256 - i
+μ-loop store m own session l n i₀ i = length store / 256 - i
 
 loop-holds : tie.Need-loop-holds Inv-loop μ-loop
-loop-holds c = refl
+loop-holds c = λ d w. refl
 
 record-at-requires : tie.Need-record-at-requires Inv-loop μ-loop
 record-at-requires c κs = search needs
@@ -27,7 +28,7 @@ is-policy-so-requires : tie.Need-is-policy-so-requires Inv-loop μ-loop
 is-policy-so-requires c κs = search needs
 
 returns : tie.Need-returns Inv-loop μ-loop
-returns c = let φ = policySo (keysOf (c .before .before .before .before .before .before .args .ks) (records (c .before .before .before .before .before .before .args .store .now))) (records (c .before .before .before .before .before .before .args .store .now)) (c .before .before .before .before .before .before .args .own) (c .before .before .before .before .before .before .args .session) (c .before .before .before .before .before .before .args .l) in sym (c .before .before .before .before .loop .inv ∙ some-here φ _ _ (c .before .before .before .loop-test .taken) (told φ (c .before .before .record-at .ensures) (c .before .is-policy-so .ensures) (c .if1 .taken)))
+returns c = λ d w. let φ = policySo d (records (c .before .before .before .before .before .before .before .args .store .now)) (c .before .before .before .before .before .before .before .args .own) (c .before .before .before .before .before .before .before .args .session) (c .before .before .before .before .before .before .before .args .l) in sym (c .before .before .before .before .loop .inv d w ∙ some-here φ _ _ (c .before .before .before .loop-test .taken) (told φ (c .before .before .record-at .ensures) (c .before .is-policy-so .ensures d w) (c .if1 .taken)))
 
 add-i : tie.Need-add-i Inv-loop μ-loop
 add-i c = search needs
@@ -36,10 +37,10 @@ loop-less : tie.Need-loop-less Inv-loop μ-loop
 loop-less c = search needs
 
 loop-again : tie.Need-loop-again Inv-loop μ-loop
-loop-again c = let φ = policySo (keysOf (c .before .before .before .before .before .before .args .ks) (records (c .before .before .before .before .before .before .args .store .now))) (records (c .before .before .before .before .before .before .args .store .now)) (c .before .before .before .before .before .before .args .own) (c .before .before .before .before .before .before .args .session) (c .before .before .before .before .before .before .args .l) in c .before .before .before .before .loop .inv ∙ some-next φ _ _ (c .before .before .before .loop-test .taken) (told φ (c .before .before .record-at .ensures) (c .before .is-policy-so .ensures) (c .if1 .left))
+loop-again c = λ d w. let φ = policySo d (records (c .before .before .before .before .before .before .before .args .store .now)) (c .before .before .before .before .before .before .before .args .own) (c .before .before .before .before .before .before .before .args .session) (c .before .before .before .before .before .before .before .args .l) in c .before .before .before .before .loop .inv d w ∙ some-next φ _ _ (c .before .before .before .loop-test .taken) (told φ (c .before .before .record-at .ensures) (c .before .is-policy-so .ensures d w) (c .if1 .left))
 
 returns-2 : tie.Need-returns-2 Inv-loop μ-loop
-returns-2 c = let φ = policySo (keysOf (c .before .before .before .args .ks) (records (c .before .before .before .args .store .now))) (records (c .before .before .before .args .store .now)) (c .before .before .before .args .own) (c .before .before .before .args .session) (c .before .before .before .args .l) in sym (c .before .loop .inv ∙ some-end φ (c .before .before .before .args .store .now) _ (c .loop-test .left))
+returns-2 c = λ d w. sym (c .before .loop .inv d w ∙ some-end (policySo d (records (c .before .before .before .before .args .store .now)) (c .before .before .before .before .args .own) (c .before .before .before .before .args .session) (c .before .before .before .before .args .l)) (c .before .before .before .before .args .store .now) _ (c .loop-test .left))
 
 pub some-policy-spec : {M : Type 1} → statement M
 some-policy-spec =

@@ -1,56 +1,69 @@
--- Whose session it is decides first; children are looked for among all records (`childless-at`).
+-- Whose session it is decides first, then the kind; children are looked for among all records (`childless-at`).
 use mathlib.Core.Path.{_∙_, sym}
 use borrow.Author.Tests.{not-true, not-false, eqb-true}
 use Rattle.paper.specs.Records.{records}
-use Rattle.session_end.proofs.Ending.{childless-at}
+use Rattle.session_end.proofs.Ending.{childless-puk, childless-policy, childless-other}
 use borrow.Author.Needs.{needs}
 use Rattle.session_end.proofs.is_childless.Statement.{statement}
 use Rattle.session_end.proofs.is_childless.Tie as tie
+use Rattle.session_end.proofs.is_childless.Reads as reads
+use Rattle.session_end.proofs.is_childless.Lts as lts
+use Rattle.records.proofs.bears.Reads as bears-reads
+use Rattle.records.proofs.has.Reads as has-reads
+use Rattle.slices.proofs.byte_at.Reads as byte-at-reads
+use Rattle.slices.proofs.four_at.Reads as four-at-reads
 
+-- src/lib.rt:44:9
 bears-requires : tie.Need-bears-requires
 bears-requires c κs = search needs
 
+-- src/lib.rt:45:9
 returns : tie.Need-returns
-returns c =
-    let bears = c .before .bears in
-    rw (sym (bears .ensures) ∙ not-true _ (c .if1 .taken))
+returns c = rw (sym (c .before .bears .ensures) ∙ not-true _ (c .if1 .taken))
 
+-- src/lib.rt:47:9
 byte-at-requires : tie.Need-byte-at-requires
 byte-at-requires c κs = search needs
 
+-- src/lib.rt:49:41
 four-at-requires : tie.Need-four-at-requires
 four-at-requires c κs = search needs
 
+-- src/lib.rt:49:17
 has-requires : tie.Need-has-requires
 has-requires c κs = search needs
 
-both-requires : tie.Need-both-requires
-both-requires c κs = search needs
+-- src/lib.rt:49:9
+returns-2 : tie.Need-returns-2
+returns-2 c = let e = sym (c .before .before .before .before .before .bears .ensures) ∙ not-false _ (c .before .before .before .before .if1 .left) in rw (e, ← childless-puk (c .before .before .before .before .before .before .before .before .args .t) (records (c .before .before .before .before .before .before .before .before .args .s .now)) (c .before .before .before .before .before .before .before .before .args .r .now) (eqb-true _ _ e) (sym (c .before .before .before .byte-at .ensures) ∙ c .before .before .if2 .taken), c .has .ensures, c .before .four-at .ensures)
 
+-- src/lib.rt:52:41
+four-at-requires-2 : tie.Need-four-at-requires-2
+four-at-requires-2 c κs = search needs
+
+-- src/lib.rt:52:17
 has-requires-2 : tie.Need-has-requires-2
 has-requires-2 c κs = search needs
 
-both-requires-2 : tie.Need-both-requires-2
-both-requires-2 c κs = search needs
+-- src/lib.rt:52:9
+returns-3 : tie.Need-returns-3
+returns-3 c = let e = sym (c .before .before .before .before .before .before .bears .ensures) ∙ not-false _ (c .before .before .before .before .before .if1 .left) in rw (e, ← childless-policy (c .before .before .before .before .before .before .before .before .before .args .t) (records (c .before .before .before .before .before .before .before .before .before .args .s .now)) (c .before .before .before .before .before .before .before .before .before .args .r .now) (eqb-true _ _ e) (sym (c .before .before .before .before .byte-at .ensures) ∙ c .before .before .if3 .taken), c .has2 .ensures, c .before .four-at2 .ensures)
 
-either-requires : tie.Need-either-requires
-either-requires c κs = search needs
-
-returns-2 : tie.Need-returns-2
-returns-2 c =
-    let args = c .before .before .before .before .before .before .before .before .before .before .before .args in
-    let bears = c .before .before .before .before .before .before .before .before .bears in
-    let if1 = c .before .before .before .before .before .before .before .if1 in
-    let byte-at = c .before .before .before .before .before .before .byte-at in
-    let four-at = c .before .before .before .before .before .four-at in
-    let has = c .before .before .before .before .has in
-    let both = c .before .before .before .both in
-    let has2 = c .before .before .has2 in
-    let both2 = c .before .both2 in
-    let e = sym (bears .ensures) ∙ not-false _ (if1 .left) in
-    rw (e, childless-at (args .t) (records (args .s .now)) (args .r .now) (eqb-true _ _ e), c .either .ensures, both .ensures, both2 .ensures, has .ensures, has2 .ensures, byte-at .ensures, four-at .ensures)
+-- src/lib.rt:41:1
+returns-4 : tie.Need-returns-4
+returns-4 c = let e = sym (c .before .before .before .before .bears .ensures) ∙ not-false _ (c .before .before .before .if1 .left) in rw e (childless-other (c .before .before .before .before .before .before .before .args .t) (records (c .before .before .before .before .before .before .before .args .s .now)) (c .before .before .before .before .before .before .before .args .r .now) (eqb-true _ _ e) (λ k. c .before .if2 .left (c .before .before .byte-at .ensures ∙ k)) (λ k. c .if3 .left (c .before .before .byte-at .ensures ∙ k)))
 
 pub is-childless-spec : {M : Type 1} → statement M
 is-childless-spec =
     tie.close
-    (tie.spec bears-requires returns byte-at-requires four-at-requires has-requires both-requires has-requires-2 both-requires-2 either-requires returns-2)
+    (tie.spec
+    bears-requires
+    returns
+    byte-at-requires
+    four-at-requires
+    has-requires
+    returns-2
+    four-at-requires-2
+    has-requires-2
+    returns-3
+    returns-4)

@@ -1,19 +1,19 @@
--- Invariant: the answer for all bytes is the answer for those from i on (`within-step`).
+-- Invariant: the answer for all bytes is the answer so far, and the answer for those from i on (`within-more`).
 use Prim.Native.Nat.{_-_}
-use Rattle.paper.specs.Bytes.{allWithin}
-use Rattle.slices.proofs.Steps.{within-step}
-use borrow.Author.Needs.{needs}
-use borrow.Author.Tests.{not-false, not-true}
-use lib.ListN.{drop, drop-of-length-le, length}
+use mathlib.Core.Bool.{_&&_}
 use mathlib.Core.Path.{_∙_, _≡_, refl, sym}
+use lib.ListN.{drop, length}
+use borrow.Author.Needs.{needs}
+use Rattle.paper.specs.Bytes.{allWithin}
+use Rattle.slices.proofs.Steps.{within-more, within-done}
 use Rattle.slices.proofs.all_within.Statement.{statement}
 use Rattle.slices.proofs.all_within.Tie as tie
 
 abbrev Inv-loop : tie.InvT-loop
-Inv-loop s lo hi i₀ i = allWithin lo hi s ≡ allWithin lo hi (drop i s)
+Inv-loop s lo hi ok₀ i₀ ok i = allWithin lo hi s ≡ ok && allWithin lo hi (drop i s)
 
 abbrev μ-loop : tie.MeasureT-loop
-μ-loop s lo hi i₀ i = length s - i
+μ-loop s lo hi ok₀ i₀ ok i = length s - i
 
 loop-holds : tie.Need-loop-holds Inv-loop μ-loop
 loop-holds c = refl
@@ -24,9 +24,6 @@ shared-slice-read-is-within c = search needs
 is-within-requires : tie.Need-is-within-requires Inv-loop μ-loop
 is-within-requires c κs = search needs
 
-returns : tie.Need-returns Inv-loop μ-loop
-returns c = sym (c .before .before .before .before .loop .inv ∙ rw (within-step _ _ _ _ (c .before .before .before .loop-test .taken), sym (c .before .is-within .ensures) ∙ not-true _ (c .if1 .taken)))
-
 add-i : tie.Need-add-i Inv-loop μ-loop
 add-i c = search needs
 
@@ -34,11 +31,10 @@ loop-less : tie.Need-loop-less Inv-loop μ-loop
 loop-less c = search needs
 
 loop-again : tie.Need-loop-again Inv-loop μ-loop
-loop-again c = c .before .before .before .before .loop .inv ∙ rw (within-step _ _ _ _ (c .before .before .before .loop-test .taken), sym (c .before .is-within .ensures) ∙ not-false _ (c .if1 .left))
+loop-again c = c .before .before .before .loop .inv ∙ within-more _ _ (c .before .before .before .before .before .args .s .now) _ (c .before .before .before .loop .ok) _ (c .before .before .loop-test .taken) (c .is-within .ensures)
 
-returns-2 : tie.Need-returns-2 Inv-loop μ-loop
-unfolding allWithin
-returns-2 c = sym (c .before .loop .inv ∙ rw (drop-of-length-le (c .before .before .before .args .s .now) (c .loop-test .left)))
+returns : tie.Need-returns Inv-loop μ-loop
+returns c = sym (c .before .loop .inv ∙ within-done _ _ _ _ _ (c .loop-test .left))
 
 pub all-within-spec : {M : Type 1} → statement M
 all-within-spec =
@@ -49,8 +45,7 @@ all-within-spec =
     loop-holds
     shared-slice-read-is-within
     is-within-requires
-    returns
     add-i
     loop-less
     loop-again
-    returns-2)
+    returns)

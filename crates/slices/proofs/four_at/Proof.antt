@@ -1,8 +1,8 @@
 -- Four bytes joined; past the end each is 0.
 use Rattle.paper.specs.Bytes.{byte, four}
 use Rattle.slices.proofs.Past.{four-past}
-use borrow.Author.Needs.{needs}
 use mathlib.Core.Path.{sym}
+use borrow.Author.Needs.{needs}
 use Rattle.slices.proofs.four_at.Statement.{statement}
 use Rattle.slices.proofs.four_at.Tie as tie
 
@@ -12,23 +12,23 @@ returns c = sym (four-past _ _ (c .if1 .taken))
 sub-if2 : tie.Need-sub-if2
 sub-if2 c = search needs
 
-byte-at-requires : tie.Need-byte-at-requires
-byte-at-requires c κs = search needs
-
 add-byte-at : tie.Need-add-byte-at
 add-byte-at c = search needs
 
-byte-at-requires-2 : tie.Need-byte-at-requires-2
-byte-at-requires-2 c κs = search needs
+byte-at-requires : tie.Need-byte-at-requires
+byte-at-requires c κs = search needs
 
 add-byte-at-2 : tie.Need-add-byte-at-2
 add-byte-at-2 c = search needs
 
-byte-at-requires-3 : tie.Need-byte-at-requires-3
-byte-at-requires-3 c κs = search needs
+byte-at-requires-2 : tie.Need-byte-at-requires-2
+byte-at-requires-2 c κs = search needs
 
 add-byte-at-3 : tie.Need-add-byte-at-3
 add-byte-at-3 c = search needs
+
+byte-at-requires-3 : tie.Need-byte-at-requires-3
+byte-at-requires-3 c κs = search needs
 
 byte-at-requires-4 : tie.Need-byte-at-requires-4
 byte-at-requires-4 c κs = search needs
@@ -74,12 +74,12 @@ four-at-spec =
     (tie.spec
     returns
     sub-if2
-    byte-at-requires
     add-byte-at
-    byte-at-requires-2
+    byte-at-requires
     add-byte-at-2
-    byte-at-requires-3
+    byte-at-requires-2
     add-byte-at-3
+    byte-at-requires-3
     byte-at-requires-4
     join4-requires
     returns-2

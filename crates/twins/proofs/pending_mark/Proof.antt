@@ -1,0 +1,32 @@
+-- The definition, case by case; no bytes are taken of the record.
+use Rattle.paper.specs.Bytes.{part}
+use Rattle.twins.specs.Marks.{pendingMark}
+use borrow.Author.Needs.{needs}
+use borrow.Author.Tests.{eq-eqb, ne-eqb}
+use Rattle.twins.proofs.pending_mark.Statement.{statement}
+use Rattle.twins.proofs.pending_mark.Tie as tie
+
+four-at-requires : tie.Need-four-at-requires
+four-at-requires c κs = search needs
+
+returns : tie.Need-returns
+unfolding pendingMark
+returns c = rw (← c .before .four-at .ensures, eq-eqb _ _ (c .if1 .taken))
+
+four-at-requires-2 : tie.Need-four-at-requires-2
+four-at-requires-2 c κs = search needs
+
+part-of-requires : tie.Need-part-of-requires
+part-of-requires c κs = search needs
+
+mix-requires : tie.Need-mix-requires
+mix-requires c κs = search needs
+
+returns-2 : tie.Need-returns-2
+unfolding pendingMark part
+returns-2 c = rw (← c .before .before .before .before .four-at .ensures, ne-eqb _ _ (c .before .before .before .if1 .left), c .mix .ensures, c .before .before .four-at2 .ensures, c .before .part-of .ensures)
+
+pub pending-mark-spec : {M : Type 1} → statement M
+pending-mark-spec =
+    tie.close
+    (tie.spec four-at-requires returns four-at-requires-2 part-of-requires mix-requires returns-2)
