@@ -1,5 +1,5 @@
-// Times the proved test of soundness, the plain one, and that of the second implementation, on full stores of five sorts and of 2 to 256
-// records, and holds their answers against each other on those stores and on each of them with one byte changed. A line has the sort,
+// Times the proved test of soundness, the plain one, and that of the second implementation, on full stores of six sorts and of 2 to 256
+// records, the last of them unsound, and holds their answers against each other on those stores and on each of them with one byte changed. A line has the sort,
 // the records, and the microseconds of each.
 mod plain;
 
@@ -13,6 +13,7 @@ fn proved(s: &[u8]) -> bool {
 
 const TESTS: [fn(&[u8]) -> bool; 3] = [proved, plain::is_sound, second::sound];
 const ROUNDS: usize = 400;
+const UNSOUND: &str = "unsound: one error too many";
 
 fn same(s: &[u8]) -> bool {
     TESTS.iter().all(|test| test(s) == proved(s))
@@ -120,7 +121,7 @@ fn store(sort: &str, n: usize) -> Vec<u8> {
                 key(r[i], 1, i as u32, 65537);
             }
         }
-        "PUKs, policies, keys" => {
+        "PUKs, policies, keys" | UNSOUND => {
             let m = (n - 2) / 3;
             session(r[last], 1, if m > 0 { 2 } else { 1 }, 1000);
             for i in 0..m {
@@ -128,6 +129,14 @@ fn store(sort: &str, n: usize) -> Vec<u8> {
                 puk(r[1 + i], 1, o);
                 policy(r[1 + m + i], 1, o + 1, 65536 + o);
                 key(r[1 + 2 * m + i], 1, o + 2, 65536 + o + 1);
+            }
+            if sort == UNSOUND {
+                // a key with one error more than its policy suffers, or else a session of state 0
+                if m > 0 {
+                    r[3 * m][2] = 4;
+                } else {
+                    r[last][1] = 0;
+                }
             }
         }
         _ => {
@@ -151,11 +160,12 @@ fn store(sort: &str, n: usize) -> Vec<u8> {
 fn time(s: &[u8]) -> [f64; 3] {
     let mut best = [f64::MAX; 3];
     let repeats = (200_000 / (s.len() * s.len() / 4096 + 1)).clamp(1, 2_000);
+    let expected = second::sound(s);
     for round in 0..ROUNDS {
         for who in (0..3).map(|k| (round + k) % 3) {
             let t = std::time::Instant::now();
             for _ in 0..repeats {
-                assert!(TESTS[who](std::hint::black_box(s)));
+                assert_eq!(TESTS[who](std::hint::black_box(s)), expected);
             }
             best[who] = best[who].min(t.elapsed().as_secs_f64() * 1e6 / repeats as f64);
         }
@@ -164,12 +174,12 @@ fn time(s: &[u8]) -> [f64; 3] {
 }
 
 fn main() {
-    let sorts = ["sessions", "keys", "one shared policy", "PUKs, policies, keys", "keys and pendings"];
+    let sorts = ["sessions", "keys", "one shared policy", "PUKs, policies, keys", "keys and pendings", UNSOUND];
     for sort in sorts {
         let mut n = 2;
         while n <= 256 {
             let s = store(sort, n);
-            assert!(same(&s), "{sort} {n}");
+            assert!(same(&s) && second::sound(&s) == (sort != UNSOUND), "{sort} {n}");
             let [proved, plain, second] = time(&s);
             println!("{sort}\t{n}\t{proved:.2}\t{plain:.2}\t{second:.2}");
             n *= 2;
