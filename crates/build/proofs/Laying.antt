@@ -108,6 +108,17 @@ zeros-in w n h =
     laid-short (w ++ zerosOf n) (omega (arith, e)) ∙ append-assoc w (zerosOf n) (zerosOf (256 - length (w ++ zerosOf n)))
     ∙ ap (λ (z : List ℕ). w ++ z) (replicate-append-replicate {A = ℕ} n (256 - length (w ++ zerosOf n)) 0 ∙ ap zerosOf f) ∙ sym (laid-short w (omega arith))
 
+pub laid-blank : (w : List ℕ) (n : ℕ) → laid (w ++ zerosOf n) ≡ laid w
+laid-blank w n = cases (256 =< length w) (λ l. laid-long w (zerosOf n) l) (λ l. cases (length w + n =< 256) (λ k. zeros-in w n k) (λ k. beyond (omega arith) (omega arith)))
+  where
+    beyond : length w ≤ 256 → 256 ≤ length w + n → laid (w ++ zerosOf n) ≡ laid w
+    beyond l k =
+        let m : ℕ = 256 - length w in
+        let f : m + (n - m) ≡ n = omega arith in
+        let e : length (w ++ zerosOf m) ≡ length w + m = length-append w (zerosOf m) ∙ ap (λ (j : ℕ). length w + j) (length-replicate {A = ℕ} m 0) in
+        let g : w ++ zerosOf n ≡ (w ++ zerosOf m) ++ zerosOf (n - m) = ap (λ (z : List ℕ). w ++ z) (ap zerosOf (sym f) ∙ sym (replicate-append-replicate {A = ℕ} m (n - m) 0)) ∙ sym (append-assoc w (zerosOf m) (zerosOf (n - m))) in
+        ap laid g ∙ laid-long (w ++ zerosOf m) (zerosOf (n - m)) (omega (arith, e)) ∙ zeros-in w m (omega arith)
+
 pub zeros-fit : (d : Draft) (w : List ℕ) (n : ℕ) → Drafts d w → d .at < 256 → d .at + n ≤ 256 → Drafts (record { bytes = d .bytes; at = d .at + n }) (w ++ zerosOf n)
 zeros-fit d w n h l k =
     let a = with-room d w h l in

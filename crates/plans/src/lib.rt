@@ -539,10 +539,10 @@ fn plan_marked(store: &[u8], md: &[u8], mu: &[u8]) -> [u8; 256]
 pub fn plan_of(store: &[u8], ds: Keys, us: Keys) -> [u8; 256]
     ensures { λ p. ⌜ Plan (fitting (records (now (store .entry))) (fate (keysOf ds (records (now (store .entry)))) (keysOf us (records (now (store .entry)))) (records (now (store .entry))))) (records (now (store .entry))) p ⌝ }
 {
-    if 256 < store.len() / 256 {
-        return [0u8; 256];
-    }
     let mut md = [0u8; 256];
+    if 256 < store.len() / 256 {
+        return md;
+    }
     marks_of(store, ds, &mut md);
     let mut mu = [0u8; 256];
     marks_of(store, us, &mut mu);

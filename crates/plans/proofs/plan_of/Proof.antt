@@ -11,7 +11,7 @@ use Rattle.plans.proofs.plan_of.Lts as lts
 use Rattle.plans.proofs.marks_of.Reads as marks-of-reads
 use Rattle.plans.proofs.plan_marked.Reads as plan-marked-reads
 
--- src/lib.rt:543:9
+-- src/lib.rt:544:9
 returns : tie.Need-returns
 returns c = plan-long (fate (keysOf (c .before .before .args .ds) (records (c .before .before .args .store .now))) (keysOf (c .before .before .args .us) (records (c .before .before .args .store .now))) (records (c .before .before .args .store .now))) (c .before .before .args .store .now) _ (c .if1 .taken) no-number
 
