@@ -83,7 +83,7 @@ fn given(v: &[u8]) -> u8
     1
 }
 
-// The record of the session h; where the call has its form it is 256 bytes long as it stands. Its last 128 bytes are not written, and so 0.
+// The record of the session h; where the call has its form it is 256 bytes long as it stands.
 fn session_record(h: u32, c: &[u8], chip: &[u8]) -> [u8; 256]
     ensures { λ r. ⌜ r ≡ laid (sessionRecord h (createIn (now (c .entry)) (now (chip .entry)))) ⌝ }
 {
@@ -96,7 +96,7 @@ fn session_record(h: u32, c: &[u8], chip: &[u8]) -> [u8; 256]
     let private = build::byte(limited, q.privacy);
     let managed = build::byte(private, given(string_at(c, q.management)));
     let timed = build::bytes(managed, part_of(c, q.times, 8));
-    build::finish(timed)
+    build::finish(build::zeros(timed, 128))
 }
 
 fn with_number(mut r: [u8; 256], n: u64) -> [u8; 256]
