@@ -129,7 +129,8 @@ def proofs():
         return None
     lines = [[name, seconds[name], len(edits.get(name, [])), sum(edits.get(name, []))] for name in sorted(seconds, key=seconds.get, reverse=True)]
     total = ["together"] + [sum(line[k] for line in lines) for k in (1, 2, 3)]
-    return table(["crate", "seconds", "must-fail edits", "their seconds"], lines + [total])
+    columns = 4 if edits else 2  # a log of the proofs alone
+    return table(["crate", "seconds", "must-fail edits", "their seconds"][:columns], [line[:columns] for line in lines + [total]])
 
 
 # ---- the picture
