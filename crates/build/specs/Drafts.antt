@@ -16,4 +16,4 @@ laid w = take recordBytes w ++ zerosOf (recordBytes - length w)
 pub record Drafts (d : Draft) (w : List ℕ) : Type 0 where
   pub bytes : d .bytes ≡ laid w
   pub next : length w < recordBytes → d .at ≡ length w
-  pub full : recordBytes ≤ length w → d .at ≡ recordBytes
+  pub full : recordBytes ≤ length w → recordBytes ≤ d .at

@@ -2,7 +2,8 @@
 // What would pass byte 256 is left out, and what is not written is zero, so nothing is asked of a field's length.
 ghost use mathlib.Core.Path.{_≡_};
 ghost use mathlib.Core.List.{List, [], _∷_, _++_};
-ghost use Prim.Native.Nat.{ℕ, _-_};
+ghost use Prim.Native.Nat.{ℕ, _+_, _-_, _≤_};
+ghost use lib.ListN.{length, take};
 ghost use Rattle.paper.specs.Bytes.{enc2, enc4, zerosOf, padded as paddedTo};
 ghost use Rattle.paper.specs.Act.{flat};
 ghost use Rattle.build.specs.Drafts.{Drafts, laid};
@@ -55,30 +56,51 @@ pub fn four(d: Draft, n: u64) -> Draft
     byte(e, (n % 256) as u8)
 }
 
-// The bytes of a slice.
+// The first m bytes of a slice, written in place. A draft is large: byte after byte by value would copy it each time.
+fn bytes_in(d: Draft, v: &[u8], m: usize) -> Draft
+    requires { ⌜ (d .at + m ≤ 256) × (m ≤ length (now v)) ⌝ }
+    ensures { λ r. ⌜ ((w : List ℕ) → Drafts d w → Drafts r (w ++ take m (now (v .entry)))) ⌝ }
+{
+    let mut b = d.bytes;
+    let at = d.at;
+    let mut i: usize = 0;
+    while i < m {
+        b[at + i] = v[i];
+        i += 1;
+    }
+    Draft {
+        bytes: b,
+        at: at + m,
+    }
+}
+
+// The bytes of a slice, or as many as there is room for.
 pub fn bytes(d: Draft, v: &[u8]) -> Draft
     ensures { λ r. ⌜ ((w : List ℕ) → Drafts d w → Drafts r (w ++ now (v .entry))) ⌝ }
 {
-    let mut r = d;
-    let mut i: usize = 0;
-    while i < v.len() {
-        r = byte(r, v[i]);
-        i += 1;
+    let at = d.at;
+    if 256 <= at {
+        return d;
     }
-    r
+    if v.len() <= 256 - at {
+        return bytes_in(d, v, v.len());
+    }
+    bytes_in(d, v, 256 - at)
 }
 
-// So many zeros.
+// So many zeros, which stand there already.
 pub fn zeros(d: Draft, n: u8) -> Draft
     ensures { λ r. ⌜ ((w : List ℕ) → Drafts d w → Drafts r (w ++ zerosOf n)) ⌝ }
 {
-    let mut r = d;
-    let mut i: u8 = 0;
-    while i < n {
-        r = byte(r, 0);
-        i += 1;
+    let b = d.bytes;
+    let at = d.at;
+    if 256 <= at {
+        return d;
     }
-    r
+    Draft {
+        bytes: b,
+        at: at + (n as usize),
+    }
 }
 
 // How many zeros stand behind n bytes in a field of so many.

@@ -1,5 +1,5 @@
 -- Plans of a close and of a new PIN, and what a plan comes to once it is carried out.
-use mathlib.Core.Bool.{Bool, true, false, cond, _||_}
+use mathlib.Core.Bool.{Bool, true, false, cond, _||_, and-false}
 use mathlib.Core.Path.{_≡_, refl, _∙_}
 use mathlib.Core.List.{List, [], map}
 use Prim.Native.Nat.{ℕ, _+_, _/_, _≤_, _<_}
@@ -22,7 +22,7 @@ use Rattle.records.specs.View.{Becomes}
 use Rattle.edits.proofs.Puts.{unchanged}
 use Rattle.plans.specs.Fate.{fate, fitting as fits, Plan}
 use Rattle.plans.proofs.Filled.{fits-plan}
-use Rattle.plans.proofs.Near.{and-false, never-true, exists-nowhere}
+use Rattle.plans.proofs.Near.{never-true, exists-nowhere}
 use Rattle.deeds.specs.Deeds.{turn, dealt}
 use Rattle.deeds.proofs.Turns.{each-map}
 use Rattle.fates.specs.declared.Deed.{Deed}

@@ -1,5 +1,5 @@
 -- Two ways to say that all PINs are alike, and the place of the first record of which a statement holds.
-use mathlib.Core.Bool.{Bool, true, false, cond, _||_}
+use mathlib.Core.Bool.{Bool, true, false, cond}
 use mathlib.Core.Path.{_≡_, refl, sym, ap, _∙_}
 use mathlib.Core.List.{List, [], _∷_, List·Memᴰ, List·Memᴰ·head, List·Memᴰ·tail, List·Memᴰ·cases-cons, List·Memᴰ·not-nil}
 use mathlib.Core.Logic.{_⊎_, inl, inr}
@@ -15,10 +15,6 @@ use Rattle.paper.proofs.Forms.{Agree, both, contrary}
 use Rattle.pairs.proofs.Relations.{same-test}
 use Rattle.records.proofs.Views.{records-from, records-end}
 use Rattle.kin.specs.Shared.{hasPin}
-
-pub or-false : (b : Bool) → (b || false) ≡ b
-or-false true = refl
-or-false false = refl
 
 -- where some record is such, the first such is one of them
 pub sought : (φ : Rec → Form) (rs : List Rec) (y : Rec) → List·Memᴰ y rs → Fact (φ y) → List·Memᴰ (seek φ rs) rs × Fact (φ (seek φ rs))

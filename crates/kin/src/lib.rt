@@ -2,6 +2,7 @@
 use hmac::is_same;
 use pairs::is_closed;
 use pairs::is_governed;
+use pairs::is_object;
 use records::Choice;
 use records::has;
 use records::is_child;
@@ -14,16 +15,9 @@ ghost use mathlib.Core.Path.{_≡_};
 ghost use lib.ListN.{length};
 ghost use Rattle.paper.specs.Form.{test, each, some, seek, _==_, no, _then_};
 ghost use Rattle.paper.specs.Records.{records, kind, parent, session};
-ghost use Rattle.paper.specs.Sound.{isObject, orphaned, there, sessionThere, keyThere, targetThere, housed, childless, policiesUsed, governs, pinsShared};
+ghost use Rattle.paper.specs.Sound.{orphaned, there, sessionThere, keyThere, targetThere, housed, childless, policiesUsed, governs, pinsShared};
 ghost use Rattle.records.specs.Choices.{chosen};
 ghost use Rattle.kin.specs.Shared.{hasPin};
-
-fn is_object(r: &[u8]) -> bool
-    ensures { λ b. ⌜ b ≡ test (isObject (now (r .entry))) ⌝ }
-{
-    let k = byte_at(r, 0);
-    (2 <= k) & (k <= 5)
-}
 
 fn is_there(s: &[u8], k: u8, o: u32, h: u32) -> bool
     ensures { λ b. ⌜ b ≡ test (there (records (now (s .entry))) k o h) ⌝ }

@@ -2,6 +2,7 @@
 // a no: the test asks first that they are who they should be.
 use hmac::is_same;
 use pairs::is_closed;
+use pairs::is_object;
 use pairs::is_related;
 use records::is_child;
 use records::is_kind;
@@ -14,7 +15,7 @@ ghost use mathlib.Core.Path.{_≡_};
 ghost use Rattle.paper.specs.Bytes.{part};
 ghost use Rattle.paper.specs.Form.{test, _==_, say, _and_, _then_};
 ghost use Rattle.paper.specs.Records.{grouping, kind, session, own};
-ghost use Rattle.paper.specs.Sound.{isObject, closed};
+ghost use Rattle.paper.specs.Sound.{closed};
 ghost use Rattle.hmac.specs.Same.{same};
 ghost use Rattle.near.specs.Near.{sessionNear, objectNear, childNear, pukNear, policyNear, targetNear, near};
 
@@ -35,13 +36,6 @@ fn session_near(c: &[u8], k: &[u8], y: &[u8]) -> bool
         return true;
     }
     is_kind(c, 6) & (is_related(c, y) & key_near(k, y))
-}
-
-fn is_object(r: &[u8]) -> bool
-    ensures { λ b. ⌜ b ≡ test (isObject (now (r .entry))) ⌝ }
-{
-    let k = byte_at(r, 0);
-    (2 <= k) & (k <= 5)
 }
 
 fn object_near(x: &[u8], y: &[u8]) -> bool

@@ -1,5 +1,5 @@
 -- What the first record's kind leaves of the clauses about one record and another.
-use mathlib.Core.Bool.{Bool, true, false, not, _&&_, _||_}
+use mathlib.Core.Bool.{Bool, true, false, not, _&&_, _||_, and-true}
 use lib.Dec.{eqb}
 use mathlib.Core.Path.{_≡_, refl, sym, _∙_}
 use mathlib.Core.List.{List}
@@ -143,10 +143,6 @@ past : (a b : Bool) → (not a || (not b || true)) ≡ true
 past true true = refl
 past true false = refl
 past false b = refl
-
-and-true : (a : Bool) → (a && true) ≡ a
-and-true true = refl
-and-true false = refl
 
 pub apart-distinct : (x y : Rec) → (session x ≡ session y → ⊥)
     → test (oneCounter x y and handlesDiffer x y and clientsDiffer x y) ≡ test (distinct x y)

@@ -7,7 +7,7 @@ use slices::part_of;
 use slices::two_at;
 ghost use mathlib.Core.Path.{_≡_};
 ghost use Rattle.paper.specs.Form.{test, _and_};
-ghost use Rattle.paper.specs.Sound.{hasHandle, hasId, oneCounter, handlesDiffer, idsDiffer, clientsDiffer, onePending, distinct, belowNext, belowCounter, governs, pukForProtection, keyCounts, pathsSet, pendingOpen, targetManaged, targetPinned, related, closed};
+ghost use Rattle.paper.specs.Sound.{hasHandle, hasId, isObject, oneCounter, handlesDiffer, idsDiffer, clientsDiffer, onePending, distinct, belowNext, belowCounter, governs, pukForProtection, keyCounts, pathsSet, pendingOpen, targetManaged, targetPinned, related, closed};
 ghost use Rattle.pairs.specs.Kinds.{ofSession, ofPolicy, concerned};
 
 fn one_counter(x: &[u8], y: &[u8]) -> bool
@@ -100,6 +100,14 @@ fn below_next(x: &[u8], y: &[u8]) -> bool
     let next = own + (two_at(x, 2) as u64);
     let late = !(four_at(y, 8) as u64 == own) | ((four_at(y, 4) as u64) + 1 <= next);
     !(byte_at(x, 0) == 1) | (!((2 <= k) & (k <= 5)) | late)
+}
+
+// Whether a record is an object: a PUK, a PIN policy, a key or a pending.
+pub fn is_object(r: &[u8]) -> bool
+    ensures { λ b. ⌜ b ≡ test (isObject (now (r .entry))) ⌝ }
+{
+    let k = byte_at(r, 0);
+    (2 <= k) & (k <= 5)
 }
 
 // Whether x is a closed session.

@@ -1,5 +1,5 @@
 -- The keys that a session holds, gathered record by record.
-use mathlib.Core.Bool.{Bool, true, false, _&&_, _||_}
+use mathlib.Core.Bool.{Bool, true, false, _&&_, _||_, or-false, or-self, or-assoc}
 use mathlib.Core.Path.{_≡_, refl, sym, ap, _∙_, fun-ext}
 use mathlib.Core.List.{List, [], _∷_}
 use mathlib.Core.Logic.{inl, inr}
@@ -19,18 +19,6 @@ use Rattle.plans.specs.Sets.{keysOf, holding, pendingOf, Joined}
 eqb-flip : (a b : ℕ) → eqb a b ≡ eqb b a
 eqb-flip a b = cases (a == b) (λ e. rw e) (λ n. ne-eqb a b n ∙ sym (ne-eqb b a (λ e. n (sym e))))
 
-or-false : (a : Bool) → a ≡ (a || false)
-or-false true = refl
-or-false false = refl
-
-or-same : (a : Bool) → (a || a) ≡ a
-or-same true = refl
-or-same false = refl
-
-or-assoc : (a b c : Bool) → ((a || b) || c) ≡ (a || (b || c))
-or-assoc true b c = refl
-or-assoc false b c = refl
-
 -- a pending of the session and the operation holds the key that it is on
 pub holding-is : (s op k : ℕ) (q : Rec) → test (holding s op k q) ≡ (test (pendingOf s op q) && one (parent q) k)
 holding-is s op k q = rw (eqb-flip k (parent q)) (go (eqb (kind q) PENDING) (eqb (session q) s) (eqb (isStale q) 0) (eqb (parent q) k) (eqb (operation q) op))
@@ -49,7 +37,7 @@ holding-is s op k q = rw (eqb-flip k (parent q)) (go (eqb (kind q) PENDING) (eqb
 
 module _ (s op : ℕ) (ks : Keys) (q : Rec) where
   pub joined-none : test (pendingOf s op q) ≡ false → Joined s op (λ k. test (holding s op k q)) ks ks
-  joined-none e = inr (λ rs k. rw (holding-is s op k q, e) (or-false (keysOf ks rs k)))
+  joined-none e = inr (λ rs k. rw (holding-is s op k q, e) (sym (or-false (keysOf ks rs k))))
 
   pub joined-one : (js : Keys) → test (pendingOf s op q) ≡ true → Joined s op (one (parent q)) ks js → Joined s op (λ k. test (holding s op k q)) ks js
   joined-one js e (inl h) = inl h
@@ -57,7 +45,7 @@ module _ (s op : ℕ) (ks : Keys) (q : Rec) where
 
 -- what is among the last records is among all
 among : (p : Rec → Bool) (i : ℕ) (rs : List Rec) → (exists p rs || exists p (drop i rs)) ≡ exists p rs
-among p zero rs = or-same (exists p rs)
+among p zero rs = or-self (exists p rs)
 among p (suc i) [] = refl
 among p (suc i) (x ∷ rs) = or-assoc (p x) (exists p rs) (exists p (drop i rs)) ∙ ap (λ (b : Bool). p x || b) (among p i rs)
 
@@ -73,4 +61,4 @@ module _ (s op : ℕ) (t : List ℕ) (i : ℕ) where
 
   pub gathered-end : (ks : Keys) → Gathered s op t ks i → length t / 256 ≤ i → keysOf ks (records t) ≡ holds s op (records t)
   unfolding holds
-  gathered-end ks g h = fun-ext (λ k. or-false (keysOf ks (records t) k) ∙ ap (λ (b : Bool). keysOf ks (records t) k || b) (sym (some-end (holding s op k) t i h)) ∙ g k)
+  gathered-end ks g h = fun-ext (λ k. sym (or-false (keysOf ks (records t) k)) ∙ ap (λ (b : Bool). keysOf ks (records t) k || b) (sym (some-end (holding s op k) t i h)) ∙ g k)

@@ -1,5 +1,5 @@
 -- Marks and homes: a mark says whether the key is of the set, and where no key of the set is at home nothing goes and no PUK is unlocked.
-use mathlib.Core.Bool.{Bool, true, false, cond, _&&_, _||_}
+use mathlib.Core.Bool.{Bool, true, false, cond, _&&_, _||_, and-false}
 use mathlib.Core.Path.{_≡_, refl, sym, ap, _∙_}
 use mathlib.Core.List.{List, [], _∷_}
 use Prim.Native.Nat.{ℕ, zero, suc, _+_, _/_, _≤_, _<_}
@@ -20,14 +20,6 @@ use Rattle.plans.specs.declared.Lot.the-variants.{Unlocked}
 use Rattle.plans.specs.Fate.{fate, Plan}
 use Rattle.plans.specs.Sets.{mark, Marked, homesOf, Widened, Extended, AtHome, AllHome, homeOf, under, policySo, parentGoes}
 use Rattle.plans.proofs.Scans.{puk-unlocked}
-
-pub and-false : (a : Bool) → (a && false) ≡ false
-and-false true = refl
-and-false false = refl
-
-pub and-true : (a : Bool) → (a && true) ≡ a
-and-true true = refl
-and-true false = refl
 
 pub never-true : (b : Bool) → (b ≡ true → ⊥) → b ≡ false
 never-true true n = absurd (n refl)

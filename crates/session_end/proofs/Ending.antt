@@ -1,6 +1,6 @@
 -- Children in a session's own records are found among all; and what methods 3 and 5 come to, by their status.
 use mathlib.Core.Path.{_≡_, refl, sym, ap, subst, _∙_}
-use mathlib.Core.Bool.{Bool, true, false, not, cond, _&&_, _||_}
+use mathlib.Core.Bool.{Bool, true, false, not, cond, _&&_, _||_, or-false}
 use mathlib.Core.List.{List, map}
 use mathlib.Core.Option.{none}
 use Prim.Native.Nat.{ℕ}
@@ -45,10 +45,6 @@ pub childless-at : (t : ℕ) (rs : List Rec) (y : Rec) → session y ≡ t
     → test (childless (block t rs) y)
     ≡ ((eqb (kind y) PUK && not (test (some rs (chosen (Child POLICY (own y) t))))) || (eqb (kind y) POLICY && not (test (some rs (chosen (Child KEY (own y) t))))))
 childless-at t rs y e = rw (child-at t POLICY rs y e, child-at t KEY rs y e)
-
-or-false : (b : Bool) → (b || false) ≡ b
-or-false true = refl
-or-false false = refl
 
 -- a PUK, a policy, and any other record
 module _ (t : ℕ) (rs : List Rec) (y : Rec) (e : session y ≡ t) where

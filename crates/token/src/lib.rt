@@ -14,6 +14,7 @@ ghost use Prim.Native.Nat.{_≤_};
 ghost use lib.ListN.{length};
 ghost use Rattle.paper.specs.Bytes.{enc4, over};
 ghost use Rattle.paper.specs.Form.{test};
+ghost use Rattle.paper.specs.Calls.{method};
 ghost use Rattle.paper.specs.Records.{records, zeros};
 ghost use Rattle.paper.specs.Sound.{sound as isSound};
 ghost use Rattle.paper.specs.Answer.{isOpen, earlyFaults, sessionStep, userStep, step as stepOf, judged, answer, freshCounter, formatted};
@@ -73,18 +74,12 @@ fn early(s: &[u8], c: &[u8]) -> u8
     fault(n2, both(form::is_session_call(c), closed), 5)
 }
 
-// The calls of a session, by their method.
-fn session_step<'a>(s: &mut [u8], c: &'a [u8], chip: &'a [u8]) -> Reply
-    requires { ⌜ isSound (now s) ≡ true ⌝ }
+// The calls that make something in a session, by their method.
+fn make_step<'a>(s: &mut [u8], c: &'a [u8], chip: &'a [u8]) -> Reply
+    requires { ⌜ (isSound (now s) ≡ true) × (method (now c) ≡ 3 → ⊥) × (method (now c) ≡ 5 → ⊥) ⌝ }
     ensures { λ r. ⌜ Answers (sessionStep (now (c .entry)) (now (chip .entry)) (records (now (s .entry)))) r (now (s .entry)) (now (s .exit)) ⌝ }
 {
     let m = byte_at(c, 0);
-    if m == 3 {
-        return session_end::close(s, c, chip);
-    }
-    if m == 5 {
-        return session_end::abort(s, c, chip);
-    }
     if m == 8 {
         return policies::make_puk(s, c, chip);
     }
@@ -101,6 +96,22 @@ fn session_step<'a>(s: &mut [u8], c: &'a [u8], chip: &'a [u8]) -> Reply
         return posting::post_delete(s, c, chip);
     }
     posting::post_unlock(s, c, chip)
+}
+
+// The calls of a session: it is ended, or something is made in it. The two stand apart so that a close, which calls deepest, does not have
+// the others' drafts below it on the stack.
+fn session_step<'a>(s: &mut [u8], c: &'a [u8], chip: &'a [u8]) -> Reply
+    requires { ⌜ isSound (now s) ≡ true ⌝ }
+    ensures { λ r. ⌜ Answers (sessionStep (now (c .entry)) (now (chip .entry)) (records (now (s .entry)))) r (now (s .entry)) (now (s .exit)) ⌝ }
+{
+    let m = byte_at(c, 0);
+    if m == 3 {
+        return session_end::close(s, c, chip);
+    }
+    if m == 5 {
+        return session_end::abort(s, c, chip);
+    }
+    make_step(s, c, chip)
 }
 
 // The user's calls.

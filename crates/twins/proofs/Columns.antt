@@ -1,5 +1,5 @@
 -- Laws of columns of marks: one entry more of a comparison, one row more, the buckets seen, and a column filled mark by mark.
-use mathlib.Core.Bool.{Bool, true, false, not, _&&_, _||_}
+use mathlib.Core.Bool.{Bool, true, false, not, _&&_, _||_, and-false, or-false, or-assoc}
 use mathlib.Core.Path.{_≡_, refl, sym, ap, _∙_}
 use mathlib.Core.List.{List, [], _∷_, _++_, map}
 use Prim.Native.Nat.{ℕ, zero, suc, _+_, _-_, _%_, _≤_, _<_}
@@ -16,19 +16,11 @@ use Rattle.paper.proofs.Forms.{contrary, cases}
 use Rattle.laws.proofs.Choice.{either}
 use Rattle.twins.specs.Marks.{markOf, occurs, repeated, differing, column}
 
-or-assoc : (a b c : Bool) → (a || (b || c)) ≡ ((a || b) || c)
-or-assoc true b c = refl
-or-assoc false b c = refl
-
-or-false : (a : Bool) → (a || false) ≡ a
-or-false true = refl
-or-false false = refl
-
 -- one entry more is compared with x, and none is left
 module _ (x : ℕ) (c : List ℕ) (i : ℕ) (hit : Bool) where
   pub hit-next : i < length c → (hit || occurs x (drop i c)) ≡ ((hit || eqb (getD c i 0) x) || occurs x (drop (i + 1) c))
   unfolding occurs
-  hit-next h = rw (drop-cons c i 0 h, add-one i) (or-assoc hit (eqb (getD c i 0) x) (occurs x (drop (suc i) c)))
+  hit-next h = rw (drop-cons c i 0 h, add-one i) (sym (or-assoc hit (eqb (getD c i 0) x) (occurs x (drop (suc i) c))))
 
   pub hit-end : length c ≤ i → (hit || occurs x (drop i c)) ≡ hit
   unfolding occurs
@@ -50,10 +42,6 @@ module _ (c : List ℕ) (i : ℕ) (p : 0 < i) (h : i ≤ length c) where
 pub no-row : (c : List ℕ) → differing (drop (length c) c) ≡ true
 unfolding differing
 no-row c = rw (drop-length c)
-
-and-false : (a : Bool) → a && false ≡ false
-and-false true = refl
-and-false false = refl
 
 -- rows that do not differ are enough
 pub some-row : (k : ℕ) (c : List ℕ) → differing (drop k c) ≡ false → differing c ≡ false

@@ -1,54 +1,44 @@
--- Invariant: the draft holds what it held at the start, and the first i bytes of v.
-use borrow.Author.Needs.{needs}
-use mathlib.Core.List.{List, _++_, append-nil}
-use Prim.Native.Nat.{ℕ, _-_, _≤_}
-use native.Mathlib.Omega.{arith}
-use mathlib.Core.Path.{_≡_}
-use lib.ListN.{length, take}
-use lib.Seq.{take-length}
+-- No room is left (`past`), enough, or not for all (`filled`).
+use Rattle.build.proofs.Laying.{past, at-end, filled}
 use Rattle.build.specs.Drafts.{Drafts}
-use Rattle.build.proofs.Laying.{byte-more}
+use mathlib.Core.List.{List, _++_}
+use mathlib.Core.Path.{subst}
+use Prim.Native.Nat.{ℕ}
+use lib.Seq.{take-length}
+use native.Mathlib.Omega.{arith}
 use borrow.Author.Needs.{needs}
 use Rattle.build.proofs.bytes.Statement.{statement}
 use Rattle.build.proofs.bytes.Tie as tie
 
-abbrev Inv-loop : tie.InvT-loop
-Inv-loop v r₀ i₀ r i = (i ≤ length v) × ((w : List ℕ) → Drafts r₀ w → Drafts r (w ++ take i v))
+returns : tie.Need-returns
+returns c = λ w h. past _ w _ h (at-end _ w h (c .if1 .taken))
 
-abbrev μ-loop : tie.MeasureT-loop
-μ-loop v r₀ i₀ r i = length v - i
+sub-if2 : tie.Need-sub-if2
+sub-if2 c = search needs
 
-loop-holds : tie.Need-loop-holds Inv-loop μ-loop
-loop-holds c = (search needs, λ w h. rw append-nil h)
+bytes-in-requires : tie.Need-bytes-in-requires
+bytes-in-requires c κs = search needs
 
-shared-slice-read-byte : tie.Need-shared-slice-read-byte Inv-loop μ-loop
-shared-slice-read-byte c = search needs
+returns-2 : tie.Need-returns-2
+returns-2 c = λ w h. subst (λ (z : List ℕ). Drafts (c .bytes-in .result) (w ++ z)) (take-length (c .before .before .before .before .args .v .now)) (c .bytes-in .ensures w h)
 
-byte-requires : tie.Need-byte-requires Inv-loop μ-loop
-byte-requires c κs = search needs
+sub-bytes-in : tie.Need-sub-bytes-in
+sub-bytes-in c = search needs
 
-add-i : tie.Need-add-i Inv-loop μ-loop
-add-i c = search needs
+bytes-in-requires-2 : tie.Need-bytes-in-requires-2
+bytes-in-requires-2 c κs = search needs
 
-loop-less : tie.Need-loop-less Inv-loop μ-loop
-loop-less c = search needs
-
-loop-again : tie.Need-loop-again Inv-loop μ-loop
-loop-again c = (search needs, λ w h. rw (← byte-more w _ _ (c .before .before .loop-test .taken)) (c .byte .ensures _ (c .before .before .before .loop .inv .1 w h)))
-
-returns : tie.Need-returns Inv-loop μ-loop
-returns c = λ w h. let e : c .before .loop .i ≡ length (c .before .before .before .args .v .now) = omega arith in rw (e, take-length) at (c .before .loop .inv .1 w h)
+returns-3 : tie.Need-returns-3
+returns-3 c = λ w h. filled _ _ w (c .before .before .before .before .args .v .now) h (omega (arith, c .before .before .if1 .left)) (omega (arith, c .before .if2 .left)) (c .bytes-in2 .ensures w h)
 
 pub bytes-spec : {M : Type 1} → statement M
 bytes-spec =
     tie.close
     (tie.spec
-    Inv-loop
-    μ-loop
-    loop-holds
-    shared-slice-read-byte
-    byte-requires
-    add-i
-    loop-less
-    loop-again
-    returns)
+    returns
+    sub-if2
+    bytes-in-requires
+    returns-2
+    sub-bytes-in
+    bytes-in-requires-2
+    returns-3)

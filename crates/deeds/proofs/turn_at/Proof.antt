@@ -5,33 +5,22 @@ use mathlib.Core.Path.{_∙_, ap}
 use borrow.Author.Needs.{needs}
 use Rattle.deeds.proofs.turn_at.Statement.{statement}
 use Rattle.deeds.proofs.turn_at.Tie as tie
-use Rattle.deeds.proofs.turn_at.Reads as reads
-use Rattle.deeds.proofs.turn_at.Lts as lts
-use Rattle.deeds.proofs.turned.Reads as turned-reads
-use Rattle.edits.proofs.copy_of.Reads as copy-of-reads
-use Rattle.edits.proofs.put.Reads as put-reads
 
--- src/lib.rt:92:9
 returns : tie.Need-returns
 returns c = stayed-at (c .before .before .before .args .v .now) _ (c .before .before .before .args .s .now) (c .before .before .before .args .i) (c .if1 .taken)
 
--- src/lib.rt:94:20
 copy-of-requires : tie.Need-copy-of-requires
 copy-of-requires c κs = search needs
 
--- src/lib.rt:94:13
 turned-requires : tie.Need-turned-requires
 turned-requires c κs = search needs
 
--- src/lib.rt:95:5
 put-requires : tie.Need-put-requires
 put-requires c κs = search needs
 
--- src/lib.rt:88:1
 same-length : tie.Need-same-length
 same-length c = search needs
 
--- src/lib.rt:88:1
 returns-2 : tie.Need-returns-2
 returns-2 c = let f = done (c .before .before .before .before .before .before .before .before .before .before .before .args .v .now) (c .before .before .before .before .before .before .before .before .before .before .before .args .n) in turned-at f (c .before .before .before .before .before .before .before .before .before .before .before .args .s .now) (c .before .before .before .before .before .before .before .before .before .before .before .args .i) _ _ (c .before .before .before .before .before .turned .ensures ∙ ap f (c .before .before .before .before .before .before .copy-of .ensures)) (c .before .before .put .ensures)
 

@@ -2,7 +2,7 @@
 use Prim.Native.Nat.{ℕ}
 use Rattle.paper.specs.Form.{test}
 use Rattle.paper.specs.Users.{givenPin}
-use Rattle.plans.proofs.Near.{and-false, and-true}
+use mathlib.Core.Bool.{and-false, and-true}
 use borrow.Author.Needs.{needs}
 use borrow.Author.Tests.{eq-eqb, ne-eqb}
 use lib.Dec.{eqb}

@@ -1,5 +1,5 @@
 -- A PUK asks for a PIN policy, a PIN policy for a key, and no other record for a child.
-use Rattle.kin.proofs.Alike.{or-false}
+use mathlib.Core.Bool.{or-false}
 use borrow.Author.Needs.{needs}
 use borrow.Author.Tests.{ne-eqb}
 use mathlib.Core.Path.{_∙_, sym}

@@ -1,39 +1,28 @@
+-- Only of a PIN policy with a PUK; then whether the one shown is it.
 use borrow.Author.Tests.{eq-eqb, ne-eqb}
 use mathlib.Core.Path.{_∙_, sym}
 use borrow.Author.Needs.{needs}
 use Rattle.near.proofs.puk_near.Statement.{statement}
 use Rattle.near.proofs.puk_near.Tie as tie
-use Rattle.near.proofs.puk_near.Reads as reads
-use Rattle.near.proofs.puk_near.Lts as lts
-use Rattle.records.proofs.is_that.Reads as is-that-reads
-use Rattle.slices.proofs.byte_at.Reads as byte-at-reads
-use Rattle.slices.proofs.four_at.Reads as four-at-reads
 
--- src/lib.rt:69:8
 byte-at-requires : tie.Need-byte-at-requires
 byte-at-requires c κs = search needs
 
--- src/lib.rt:70:9
 returns : tie.Need-returns
 returns c = rw (← c .before .byte-at .ensures, ne-eqb _ _ (c .if1 .taken))
 
--- src/lib.rt:72:9
 four-at-requires : tie.Need-four-at-requires
 four-at-requires c κs = search needs
 
--- src/lib.rt:74:9
 returns-2 : tie.Need-returns-2
 returns-2 c = rw (← c .before .before .before .byte-at .ensures, eq-eqb _ _ (c .before .before .if1 .left), sym (c .before .four-at .ensures) ∙ c .if2 .taken)
 
--- src/lib.rt:76:22
 four-at-requires-2 : tie.Need-four-at-requires-2
 four-at-requires-2 c κs = search needs
 
--- src/lib.rt:76:5
 is-that-requires : tie.Need-is-that-requires
 is-that-requires c κs = search needs
 
--- src/lib.rt:66:1
 returns-3 : tie.Need-returns-3
 returns-3 c = rw (← c .before .before .before .before .before .byte-at .ensures, eq-eqb _ _ (c .before .before .before .before .if1 .left), ← c .before .before .before .four-at .ensures, ne-eqb _ _ (c .before .before .if2 .left), ← c .before .four-at2 .ensures) (c .is-that .ensures)
 

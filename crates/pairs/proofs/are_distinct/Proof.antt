@@ -1,55 +1,37 @@
+-- Of different sessions, what is left of the clauses (`are_apart`); else all of them, joined in the paper's order.
 use mathlib.Core.Path.{_∙_, sym}
 use Rattle.pairs.proofs.Relations.{apart-distinct}
 use borrow.Author.Needs.{needs}
 use Rattle.pairs.proofs.are_distinct.Statement.{statement}
 use Rattle.pairs.proofs.are_distinct.Tie as tie
-use Rattle.pairs.proofs.are_distinct.Reads as reads
-use Rattle.pairs.proofs.are_distinct.Lts as lts
-use Rattle.pairs.proofs.are_apart.Reads as are-apart-reads
-use Rattle.pairs.proofs.clients_differ.Reads as clients-differ-reads
-use Rattle.pairs.proofs.handles_differ.Reads as handles-differ-reads
-use Rattle.pairs.proofs.ids_differ.Reads as ids-differ-reads
-use Rattle.pairs.proofs.one_counter.Reads as one-counter-reads
-use Rattle.pairs.proofs.one_pending.Reads as one-pending-reads
-use Rattle.slices.proofs.four_at.Reads as four-at-reads
 
--- src/lib.rt:88:8
 four-at-requires : tie.Need-four-at-requires
 four-at-requires c κs = search needs
 
--- src/lib.rt:88:25
 four-at-requires-2 : tie.Need-four-at-requires-2
 four-at-requires-2 c κs = search needs
 
--- src/lib.rt:89:9
 are-apart-requires : tie.Need-are-apart-requires
 are-apart-requires c κs = search needs
 
--- src/lib.rt:89:9
 returns : tie.Need-returns
 returns c = c .are-apart .ensures ∙ apart-distinct (c .before .before .before .before .before .before .args .x .now) (c .before .before .before .before .before .before .args .y .now) (λ e. c .before .if1 .taken (c .before .before .before .four-at .ensures ∙ e ∙ sym (c .before .before .four-at2 .ensures)))
 
--- src/lib.rt:91:17
 ids-differ-requires : tie.Need-ids-differ-requires
 ids-differ-requires c κs = search needs
 
--- src/lib.rt:91:37
 clients-differ-requires : tie.Need-clients-differ-requires
 clients-differ-requires c κs = search needs
 
--- src/lib.rt:91:60
 one-pending-requires : tie.Need-one-pending-requires
 one-pending-requires c κs = search needs
 
--- src/lib.rt:92:5
 one-counter-requires : tie.Need-one-counter-requires
 one-counter-requires c κs = search needs
 
--- src/lib.rt:92:26
 handles-differ-requires : tie.Need-handles-differ-requires
 handles-differ-requires c κs = search needs
 
--- src/lib.rt:85:1
 returns-2 : tie.Need-returns-2
 returns-2 c = rw (c .before .one-counter .ensures, c .handles-differ .ensures, c .before .before .before .before .ids-differ .ensures, c .before .before .before .clients-differ .ensures, c .before .before .one-pending .ensures)
 

@@ -1,48 +1,35 @@
+-- Of what is no key under it a PIN policy says nothing (`policy-far`); else the two statements.
 use Rattle.pairs.proofs.Relations.{policy-far}
 use mathlib.Core.Path.{_∙_, sym}
 use borrow.Author.Tests.{not-true, not-false}
 use borrow.Author.Needs.{needs}
 use Rattle.pairs.proofs.policy_related.Statement.{statement}
 use Rattle.pairs.proofs.policy_related.Tie as tie
-use Rattle.pairs.proofs.policy_related.Reads as reads
-use Rattle.pairs.proofs.policy_related.Lts as lts
-use Rattle.pairs.proofs.is_governed.Reads as is-governed-reads
-use Rattle.slices.proofs.byte_at.Reads as byte-at-reads
-use Rattle.slices.proofs.four_at.Reads as four-at-reads
 
--- src/lib.rt:167:8
 byte-at-requires : tie.Need-byte-at-requires
 byte-at-requires c κs = search needs
 
--- src/lib.rt:168:9
 returns : tie.Need-returns
 returns c = sym (policy-far (c .before .before .before .before .args .x .now) (c .before .before .before .before .args .y .now) (λ e. c .if1 .taken (c .before .byte-at .ensures ∙ e)))
 
--- src/lib.rt:170:9
 is-governed-requires : tie.Need-is-governed-requires
 is-governed-requires c κs = search needs
 
--- src/lib.rt:171:9
 returns-2 : tie.Need-returns-2
 returns-2 c = rw (sym (c .before .is-governed .ensures) ∙ not-true _ (c .if2 .taken))
 
--- src/lib.rt:173:21
 byte-at-requires-2 : tie.Need-byte-at-requires-2
 byte-at-requires-2 c κs = search needs
 
--- src/lib.rt:173:44
 four-at-requires : tie.Need-four-at-requires
 four-at-requires c κs = search needs
 
--- src/lib.rt:174:16
 byte-at-requires-3 : tie.Need-byte-at-requires-3
 byte-at-requires-3 c κs = search needs
 
--- src/lib.rt:174:33
 byte-at-requires-4 : tie.Need-byte-at-requires-4
 byte-at-requires-4 c κs = search needs
 
--- src/lib.rt:164:1
 returns-3 : tie.Need-returns-3
 returns-3 c = rw (sym (c .before .before .before .before .before .is-governed .ensures) ∙ not-false _ (c .before .before .before .before .if2 .left), c .before .before .four-at .ensures, c .before .before .before .byte-at2 .ensures, c .before .byte-at3 .ensures, c .byte-at4 .ensures)
 

@@ -1,7 +1,7 @@
 -- The session, and then the rest.
 use borrow.Author.Tests.{not-false, not-true}
 use mathlib.Core.Path.{_∙_, sym}
-use Rattle.plans.proofs.Near.{and-false}
+use mathlib.Core.Bool.{and-false}
 use borrow.Author.Needs.{needs}
 use Rattle.plans.proofs.is_child_of.Statement.{statement}
 use Rattle.plans.proofs.is_child_of.Tie as tie

@@ -1,7 +1,7 @@
 -- The session, and then the kind.
 use borrow.Author.Tests.{not-false, not-true}
 use mathlib.Core.Path.{_∙_, sym}
-use Rattle.plans.proofs.Near.{and-false, and-true}
+use mathlib.Core.Bool.{and-false, and-true}
 use borrow.Author.Needs.{needs}
 use Rattle.plans.proofs.is_key_in.Statement.{statement}
 use Rattle.plans.proofs.is_key_in.Tie as tie

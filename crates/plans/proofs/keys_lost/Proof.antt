@@ -1,6 +1,6 @@
 -- None stays, and some goes.
 use mathlib.Core.Path.{_∙_, sym}
-use Rattle.plans.proofs.Near.{and-false, and-true}
+use mathlib.Core.Bool.{and-false, and-true}
 use borrow.Author.Needs.{needs}
 use Rattle.plans.proofs.keys_lost.Statement.{statement}
 use Rattle.plans.proofs.keys_lost.Tie as tie

@@ -8,13 +8,8 @@ use lib.ListN.{length}
 use mathlib.Core.Path.{_∙_, sym}
 use native.Mathlib.Omega.{arith}
 use borrow.Author.Needs.{needs}
-use borrow.Author.Needs.{needs}
 use Rattle.plans.proofs.marks_of.Statement.{statement}
 use Rattle.plans.proofs.marks_of.Tie as tie
-use Rattle.plans.proofs.marks_of.Reads as reads
-use Rattle.plans.proofs.marks_of.Lts as lts
-use Rattle.plans.proofs.mark_of.Reads as mark-of-reads
-use Rattle.records.proofs.record_at.Reads as record-at-reads
 
 abbrev Inv-loop : tie.InvT-loop
 Inv-loop store ks m₀ n i₀ m i = Planned (mark (keysOf ks (records store))) (records store) m i
@@ -22,39 +17,30 @@ Inv-loop store ks m₀ n i₀ m i = Planned (mark (keysOf ks (records store))) (
 abbrev μ-loop : tie.MeasureT-loop
 μ-loop store ks m₀ n i₀ m i = length store / 256 - i
 
--- src/lib.rt:198:5
 loop-holds : tie.Need-loop-holds Inv-loop μ-loop
 loop-holds c = record { long = c .before .before .pre .1; at = λ j l. absurd (omega arith) }
 
--- src/lib.rt:199:35
 record-at-requires : tie.Need-record-at-requires Inv-loop μ-loop
 record-at-requires c κs = search needs
 
--- src/lib.rt:199:16
 mark-of-requires : tie.Need-mark-of-requires Inv-loop μ-loop
 mark-of-requires c κs = search needs
 
--- src/lib.rt:199:9
 slice-write-m : tie.Need-slice-write-m Inv-loop μ-loop
 slice-write-m c = omega (arith, c .before .before .before .loop .inv .long, c .before .before .before .before .before .before .pre)
 
--- src/lib.rt:200:9
 add-i : tie.Need-add-i Inv-loop μ-loop
 add-i c = search needs
 
--- src/lib.rt:198:5
 loop-less : tie.Need-loop-less Inv-loop μ-loop
 loop-less c = search needs
 
--- src/lib.rt:198:5
 loop-again : tie.Need-loop-again Inv-loop μ-loop
 loop-again c = let h : c .before .before .before .loop .i < 256 = omega (arith, c .before .before .before .before .before .before .pre) in planned-step (c .before .before .before .loop .inv) _ h (rw (← c .before .record-at .ensures) (c .mark-of .ensures))
 
--- src/lib.rt:192:1
 same-length : tie.Need-same-length Inv-loop μ-loop
 same-length c = c .before .loop .inv .long ∙ sym (c .before .before .before .before .pre .1)
 
--- src/lib.rt:192:1
 returns : tie.Need-returns Inv-loop μ-loop
 returns c = let h : length (records (c .before .before .before .before .args .store .now)) ≤ c .before .loop .i = omega (arith, length-records (c .before .before .before .before .args .store .now)) in record { at = planned-done (c .before .loop .inv) h .at }
 

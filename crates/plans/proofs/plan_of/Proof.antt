@@ -6,44 +6,31 @@ use Rattle.paper.specs.Records.{records}
 use borrow.Author.Needs.{needs}
 use Rattle.plans.proofs.plan_of.Statement.{statement}
 use Rattle.plans.proofs.plan_of.Tie as tie
-use Rattle.plans.proofs.plan_of.Reads as reads
-use Rattle.plans.proofs.plan_of.Lts as lts
-use Rattle.plans.proofs.marks_of.Reads as marks-of-reads
-use Rattle.plans.proofs.plan_marked.Reads as plan-marked-reads
 
--- src/lib.rt:544:9
 returns : tie.Need-returns
 returns c = plan-long (fate (keysOf (c .before .before .args .ds) (records (c .before .before .args .store .now))) (keysOf (c .before .before .args .us) (records (c .before .before .args .store .now))) (records (c .before .before .args .store .now))) (c .before .before .args .store .now) _ (c .if1 .taken) no-number
 
--- src/lib.rt:546:25
 slice-aggregate-marks-of : tie.Need-slice-aggregate-marks-of
 slice-aggregate-marks-of c = search needs
 
--- src/lib.rt:546:5
 marks-of-requires : tie.Need-marks-of-requires
 marks-of-requires c κs = search needs
 
--- src/lib.rt:548:25
 slice-aggregate-marks-of-2 : tie.Need-slice-aggregate-marks-of-2
 slice-aggregate-marks-of-2 c = search needs
 
--- src/lib.rt:548:5
 marks-of-requires-2 : tie.Need-marks-of-requires-2
 marks-of-requires-2 c κs = search needs
 
--- src/lib.rt:549:24
 slice-aggregate-plan-marked : tie.Need-slice-aggregate-plan-marked
 slice-aggregate-plan-marked c = search needs
 
--- src/lib.rt:549:29
 slice-aggregate-plan-marked-2 : tie.Need-slice-aggregate-plan-marked-2
 slice-aggregate-plan-marked-2 c = search needs
 
--- src/lib.rt:549:5
 plan-marked-requires : tie.Need-plan-marked-requires
 plan-marked-requires c κs = search needs
 
--- src/lib.rt:539:1
 returns-2 : tie.Need-returns-2
 returns-2 c = plan-fits (fate (keysOf (c .before .before .before .before .before .before .before .before .before .before .before .args .ds) (records (c .before .before .before .before .before .before .before .before .before .before .before .args .store .now))) (keysOf (c .before .before .before .before .before .before .before .before .before .before .before .args .us) (records (c .before .before .before .before .before .before .before .before .before .before .before .args .store .now))) (records (c .before .before .before .before .before .before .before .before .before .before .before .args .store .now))) (c .before .before .before .before .before .before .before .before .before .before .before .args .store .now) _ (c .before .before .before .before .before .before .before .before .before .if1 .left) (c .plan-marked .ensures _ _ (c .before .before .before .before .before .before .before .marks-of .ensures) (c .before .before .before .before .marks-of2 .ensures))
 

@@ -1,7 +1,7 @@
 -- The kind, and then its policies: none stays, and some goes.
 use mathlib.Core.Path.{_∙_, sym}
 use borrow.Author.Tests.{not-false, not-true}
-use Rattle.plans.proofs.Near.{and-false, and-true}
+use mathlib.Core.Bool.{and-false, and-true}
 use borrow.Author.Needs.{needs}
 use Rattle.plans.proofs.puk_goes.Statement.{statement}
 use Rattle.plans.proofs.puk_goes.Tie as tie

@@ -5,27 +5,19 @@ use mathlib.Core.Path.{_∙_}
 use borrow.Author.Needs.{needs}
 use Rattle.records.proofs.is_free.Statement.{statement}
 use Rattle.records.proofs.is_free.Tie as tie
-use Rattle.records.proofs.is_free.Reads as reads
-use Rattle.records.proofs.is_free.Lts as lts
-use Rattle.slices.proofs.is_blank.Reads as is-blank-reads
 
--- src/lib.rt:130:9
 returns : tie.Need-returns
 returns c = not-free (now (c .before .before .args .r)) (c .if1 .taken)
 
--- src/lib.rt:132:8
 shared-slice-read-if2 : tie.Need-shared-slice-read-if2
 shared-slice-read-if2 c = search needs
 
--- src/lib.rt:133:9
 returns-2 : tie.Need-returns-2
 returns-2 c = taken-first (now (c .before .before .before .before .args .r)) (c .if2 .taken)
 
--- src/lib.rt:135:5
 is-blank-requires : tie.Need-is-blank-requires
 is-blank-requires c κs = search needs
 
--- src/lib.rt:126:1
 returns-3 : tie.Need-returns-3
 returns-3 c = c .is-blank .ensures ∙ free-blank (now (c .before .before .before .before .before .args .r)) (c .before .before .before .if1 .left)
 

@@ -6,50 +6,34 @@ use Rattle.session_end.proofs.Ending.{childless-puk, childless-policy, 
 use borrow.Author.Needs.{needs}
 use Rattle.session_end.proofs.is_childless.Statement.{statement}
 use Rattle.session_end.proofs.is_childless.Tie as tie
-use Rattle.session_end.proofs.is_childless.Reads as reads
-use Rattle.session_end.proofs.is_childless.Lts as lts
-use Rattle.records.proofs.bears.Reads as bears-reads
-use Rattle.records.proofs.has.Reads as has-reads
-use Rattle.slices.proofs.byte_at.Reads as byte-at-reads
-use Rattle.slices.proofs.four_at.Reads as four-at-reads
 
--- src/lib.rt:44:9
 bears-requires : tie.Need-bears-requires
 bears-requires c κs = search needs
 
--- src/lib.rt:45:9
 returns : tie.Need-returns
 returns c = rw (sym (c .before .bears .ensures) ∙ not-true _ (c .if1 .taken))
 
--- src/lib.rt:47:9
 byte-at-requires : tie.Need-byte-at-requires
 byte-at-requires c κs = search needs
 
--- src/lib.rt:49:41
 four-at-requires : tie.Need-four-at-requires
 four-at-requires c κs = search needs
 
--- src/lib.rt:49:17
 has-requires : tie.Need-has-requires
 has-requires c κs = search needs
 
--- src/lib.rt:49:9
 returns-2 : tie.Need-returns-2
 returns-2 c = let e = sym (c .before .before .before .before .before .bears .ensures) ∙ not-false _ (c .before .before .before .before .if1 .left) in rw (e, ← childless-puk (c .before .before .before .before .before .before .before .before .args .t) (records (c .before .before .before .before .before .before .before .before .args .s .now)) (c .before .before .before .before .before .before .before .before .args .r .now) (eqb-true _ _ e) (sym (c .before .before .before .byte-at .ensures) ∙ c .before .before .if2 .taken), c .has .ensures, c .before .four-at .ensures)
 
--- src/lib.rt:52:41
 four-at-requires-2 : tie.Need-four-at-requires-2
 four-at-requires-2 c κs = search needs
 
--- src/lib.rt:52:17
 has-requires-2 : tie.Need-has-requires-2
 has-requires-2 c κs = search needs
 
--- src/lib.rt:52:9
 returns-3 : tie.Need-returns-3
 returns-3 c = let e = sym (c .before .before .before .before .before .before .bears .ensures) ∙ not-false _ (c .before .before .before .before .before .if1 .left) in rw (e, ← childless-policy (c .before .before .before .before .before .before .before .before .before .args .t) (records (c .before .before .before .before .before .before .before .before .before .args .s .now)) (c .before .before .before .before .before .before .before .before .before .args .r .now) (eqb-true _ _ e) (sym (c .before .before .before .before .byte-at .ensures) ∙ c .before .before .if3 .taken), c .has2 .ensures, c .before .four-at2 .ensures)
 
--- src/lib.rt:41:1
 returns-4 : tie.Need-returns-4
 returns-4 c = let e = sym (c .before .before .before .before .bears .ensures) ∙ not-false _ (c .before .before .before .if1 .left) in rw e (childless-other (c .before .before .before .before .before .before .before .args .t) (records (c .before .before .before .before .before .before .before .args .s .now)) (c .before .before .before .before .before .before .before .args .r .now) (eqb-true _ _ e) (λ k. c .before .if2 .left (c .before .before .byte-at .ensures ∙ k)) (λ k. c .if3 .left (c .before .before .byte-at .ensures ∙ k)))
 

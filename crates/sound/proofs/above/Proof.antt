@@ -1,17 +1,11 @@
+-- Invariant: the length. What is written is a guess, of which nothing is promised.
 use borrow.Author.Needs.{needs}
 use Prim.Native.Nat.{_-_, _/_}
 use lib.ListN.{length}
 use mathlib.Core.Path.{_≡_, refl, _∙_}
 use native.Mathlib.Omega.{arith}
-use borrow.Author.Needs.{needs}
 use Rattle.sound.proofs.above.Statement.{statement}
 use Rattle.sound.proofs.above.Tie as tie
-use Rattle.sound.proofs.above.Reads as reads
-use Rattle.sound.proofs.above.Lts as lts
-use Rattle.records.proofs.record_at.Reads as record-at-reads
-use Rattle.slices.proofs.four_at.Reads as four-at-reads
-use Rattle.sound.proofs.note.Reads as note-reads
-use Rattle.sound.proofs.seat.Reads as seat-reads
 
 abbrev Inv-loop : tie.InvT-loop
 Inv-loop s t field p₀ n i₀ p i = length p ≡ length p₀
@@ -19,43 +13,33 @@ Inv-loop s t field p₀ n i₀ p i = length p ≡ length p₀
 abbrev μ-loop : tie.MeasureT-loop
 μ-loop s t field p₀ n i₀ p i = length s / 256 - i
 
--- src/lib.rt:239:5
 loop-holds : tie.Need-loop-holds Inv-loop μ-loop
 loop-holds c = refl
 
--- src/lib.rt:240:39
 record-at-requires : tie.Need-record-at-requires Inv-loop μ-loop
 record-at-requires c κs = search needs
 
--- src/lib.rt:240:31
 four-at-requires : tie.Need-four-at-requires Inv-loop μ-loop
 four-at-requires c κs = search needs
 
--- src/lib.rt:240:20
 seat-requires : tie.Need-seat-requires Inv-loop μ-loop
 seat-requires c κs = search needs
 
--- src/lib.rt:240:9
 note-requires : tie.Need-note-requires Inv-loop μ-loop
 note-requires c κs = (omega (arith, c .before .before .before .before .before .loop .inv, c .before .before .before .before .before .before .before .before .before .pre), c .seat .ensures)
 
--- src/lib.rt:241:9
 add-i : tie.Need-add-i Inv-loop μ-loop
 add-i c = search needs
 
--- src/lib.rt:239:5
 loop-less : tie.Need-loop-less Inv-loop μ-loop
 loop-less c = search needs
 
--- src/lib.rt:239:5
 loop-again : tie.Need-loop-again Inv-loop μ-loop
 loop-again c = c .before .before .note .kept .0 ∙ c .before .before .before .before .before .before .before .before .loop .inv
 
--- src/lib.rt:234:1
 same-length : tie.Need-same-length Inv-loop μ-loop
 same-length c = c .before .loop .inv
 
--- src/lib.rt:234:1
 returns : tie.Need-returns Inv-loop μ-loop
 returns c = search needs
 

@@ -1,27 +1,20 @@
+-- A no says nothing; a yes gives both parts.
 use borrow.Author.Tests.{not-false}
 use mathlib.Core.Path.{_∙_, sym}
 use Rattle.paper.proofs.Forms.{contrary}
 use borrow.Author.Needs.{needs}
 use Rattle.sound.proofs.is_plain.Statement.{statement}
 use Rattle.sound.proofs.is_plain.Tie as tie
-use Rattle.sound.proofs.is_plain.Reads as reads
-use Rattle.sound.proofs.is_plain.Lts as lts
-use Rattle.sound.proofs.is_sited.Reads as is-sited-reads
-use Rattle.twins.proofs.marks_differ.Reads as marks-differ-reads
 
--- src/lib.rt:301:9
 marks-differ-requires : tie.Need-marks-differ-requires
 marks-differ-requires c κs = search needs
 
--- src/lib.rt:302:9
 returns : tie.Need-returns
 returns c = λ e. contrary (sym e)
 
--- src/lib.rt:304:5
 is-sited-requires : tie.Need-is-sited-requires
 is-sited-requires c κs = search needs
 
--- src/lib.rt:297:1
 returns-2 : tie.Need-returns-2
 returns-2 c = λ e. (sym (c .before .before .marks-differ .ensures) ∙ not-false _ (c .before .if1 .left), c .is-sited .ensures e)
 

@@ -1,3 +1,4 @@
+-- Each place is read and then the record there (`seen`); the statement is that of the records shown (`same-near`).
 use Prim.Native.Nat.{ℕ}
 use mathlib.Core.List.{List}
 use mathlib.Core.Path.{_≡_, _∙_, ap}
@@ -8,65 +9,46 @@ use Rattle.sound.proofs.Showing.{seen, same-near}
 use borrow.Author.Needs.{needs}
 use Rattle.sound.proofs.is_sited_at.Statement.{statement}
 use Rattle.sound.proofs.is_sited_at.Tie as tie
-use Rattle.sound.proofs.is_sited_at.Reads as reads
-use Rattle.sound.proofs.is_sited_at.Lts as lts
-use Rattle.near.proofs.is_near.Reads as is-near-reads
-use Rattle.records.proofs.record_at.Reads as record-at-reads
-use Rattle.slices.proofs.size_at.Reads as size-at-reads
 
--- src/lib.rt:108:9
 size-at-requires : tie.Need-size-at-requires
 size-at-requires c κs = search needs
 
--- src/lib.rt:109:26
 size-at-requires-2 : tie.Need-size-at-requires-2
 size-at-requires-2 c κs = search needs
 
--- src/lib.rt:109:9
 record-at-requires : tie.Need-record-at-requires
 record-at-requires c κs = search needs
 
--- src/lib.rt:110:26
 size-at-requires-3 : tie.Need-size-at-requires-3
 size-at-requires-3 c κs = search needs
 
--- src/lib.rt:110:9
 record-at-requires-2 : tie.Need-record-at-requires-2
 record-at-requires-2 c κs = search needs
 
--- src/lib.rt:111:26
 size-at-requires-4 : tie.Need-size-at-requires-4
 size-at-requires-4 c κs = search needs
 
--- src/lib.rt:111:9
 record-at-requires-3 : tie.Need-record-at-requires-3
 record-at-requires-3 c κs = search needs
 
--- src/lib.rt:112:26
 size-at-requires-5 : tie.Need-size-at-requires-5
 size-at-requires-5 c κs = search needs
 
--- src/lib.rt:112:9
 record-at-requires-4 : tie.Need-record-at-requires-4
 record-at-requires-4 c κs = search needs
 
--- src/lib.rt:113:13
 record-at-requires-5 : tie.Need-record-at-requires-5
 record-at-requires-5 c κs = search needs
 
--- src/lib.rt:113:33
 record-at-requires-6 : tie.Need-record-at-requires-6
 record-at-requires-6 c κs = search needs
 
--- src/lib.rt:113:59
 record-at-requires-7 : tie.Need-record-at-requires-7
 record-at-requires-7 c κs = search needs
 
--- src/lib.rt:113:5
 is-near-requires : tie.Need-is-near-requires
 is-near-requires c κs = search needs
 
--- src/lib.rt:105:1
 returns : tie.Need-returns
 returns c = let rs : List Rec = records (c .before .before .before .before .before .before .before .before .before .before .before .before .before .before .before .before .before .args .s .now) in
     let up : List ℕ = c .before .before .before .before .before .before .before .before .before .before .before .before .before .before .before .before .before .args .up .now in

@@ -1,10 +1,8 @@
--- Each method by its number (`step-3` to `step-51`); a sound store is in range (`ranged`) and its policies let no long PIN by (`uncut`).
+-- Close and abort by their number (`step-3`, `step-5`), the others as `make_step` promises; a sound store is in range (`ranged`).
 use mathlib.Core.Path.{sym, _∙_}
-use Rattle.token.proofs.Steps.{proper-store, ranged, step-3, step-5, step-8, step-9, step-10, step-12, step-50, step-51}
+use Rattle.token.proofs.Steps.{ranged, step-3, step-5}
 use Rattle.paper.specs.Records.{records}
-use Rattle.paper.specs.Calls.{subject, key}
 use Rattle.session_end.specs.Ends.{ended}
-use Rattle.keys.proofs.Whole.{uncut, longest-short}
 use borrow.Author.Needs.{needs}
 use Rattle.token.proofs.session_step.Statement.{statement}
 use Rattle.token.proofs.session_step.Tie as tie
@@ -41,96 +39,16 @@ returns-2 c =
     let abort = c .before .before .abort in
     rw (step-5 (args .c .now) (args .chip .now) (records (args .s .now)) (sym (byte-at .ensures) ∙ if2 .taken)) (abort .ensures)
 
-make-puk-requires : tie.Need-make-puk-requires
-make-puk-requires c κs = search needs
+make-step-requires : tie.Need-make-step-requires
+make-step-requires c κs =
+    let byte-at = c .before .before .before .byte-at in
+    (c .before .before .before .before .before .before .before .pre, λ z. c .before .before .if1 .left (byte-at .ensures ∙ z), λ z. c .before .if2 .left (byte-at .ensures ∙ z))
 
 same-length-3 : tie.Need-same-length-3
 same-length-3 c = search needs
 
 returns-3 : tie.Need-returns-3
-returns-3 c =
-    let args = c .before .before .before .before .before .before .before .before .before .before .before .args in
-    let byte-at = c .before .before .before .before .before .before .before .byte-at in
-    let if3 = c .before .before .before .before .if3 in
-    let make-puk = c .before .before .make-puk in
-    rw (step-8 (args .c .now) (args .chip .now) (records (args .s .now)) (sym (byte-at .ensures) ∙ if3 .taken)) (make-puk .ensures)
-
-make-policy-requires : tie.Need-make-policy-requires
-make-policy-requires c κs = search needs
-
-same-length-4 : tie.Need-same-length-4
-same-length-4 c = search needs
-
-returns-4 : tie.Need-returns-4
-returns-4 c =
-    let args = c .before .before .before .before .before .before .before .before .before .before .before .before .args in
-    let byte-at = c .before .before .before .before .before .before .before .before .byte-at in
-    let if4 = c .before .before .before .before .if4 in
-    let make-policy = c .before .before .make-policy in
-    rw (step-9 (args .c .now) (args .chip .now) (records (args .s .now)) (sym (byte-at .ensures) ∙ if4 .taken)) (make-policy .ensures)
-
-make-key-requires : tie.Need-make-key-requires
-make-key-requires c κs = search needs
-
-same-length-5 : tie.Need-same-length-5
-same-length-5 c = search needs
-
-returns-5 : tie.Need-returns-5
-returns-5 c =
-    let args = c .before .before .before .before .before .before .before .before .before .before .before .before .before .args in
-    let pre = c .before .before .before .before .before .before .before .before .before .before .before .before .before .pre in
-    let byte-at = c .before .before .before .before .before .before .before .before .before .byte-at in
-    let if5 = c .before .before .before .before .if5 in
-    let make-key = c .before .before .make-key in
-    rw (step-10 (args .c .now) (args .chip .now) (records (args .s .now)) (sym (byte-at .ensures) ∙ if5 .taken), ← uncut (args .c .now) (args .chip .now) (records (args .s .now)) (longest-short (key (args .c .now) (args .chip .now) .policy) (subject (args .c .now)) (records (args .s .now)) (proper-store (args .s .now) (pre)))) (make-key .ensures)
-
-set-path-requires : tie.Need-set-path-requires
-set-path-requires c κs = search needs
-
-same-length-6 : tie.Need-same-length-6
-same-length-6 c = search needs
-
-returns-6 : tie.Need-returns-6
-returns-6 c =
-    let args = c .before .before .before .before .before .before .before .before .before .before .before .before .before .before .args in
-    let byte-at = c .before .before .before .before .before .before .before .before .before .before .byte-at in
-    let if6 = c .before .before .before .before .if6 in
-    let set-path = c .before .before .set-path in
-    rw (step-12 (args .c .now) (args .chip .now) (records (args .s .now)) (sym (byte-at .ensures) ∙ if6 .taken)) (set-path .ensures)
-
-post-delete-requires : tie.Need-post-delete-requires
-post-delete-requires c κs = search needs
-
-same-length-7 : tie.Need-same-length-7
-same-length-7 c = search needs
-
-returns-7 : tie.Need-returns-7
-returns-7 c =
-    let args = c .before .before .before .before .before .before .before .before .before .before .before .before .before .before .before .args in
-    let byte-at = c .before .before .before .before .before .before .before .before .before .before .before .byte-at in
-    let if7 = c .before .before .before .before .if7 in
-    let post-delete = c .before .before .post-delete in
-    rw (step-50 (args .c .now) (args .chip .now) (records (args .s .now)) (sym (byte-at .ensures) ∙ if7 .taken)) (post-delete .ensures)
-
-post-unlock-requires : tie.Need-post-unlock-requires
-post-unlock-requires c κs = search needs
-
-same-length-8 : tie.Need-same-length-8
-same-length-8 c = search needs
-
-returns-8 : tie.Need-returns-8
-returns-8 c =
-    let args = c .before .before .before .before .before .before .before .before .before .before .before .before .before .before .before .args in
-    let byte-at = c .before .before .before .before .before .before .before .before .before .before .before .byte-at in
-    let if1 = c .before .before .before .before .before .before .before .before .before .before .if1 in
-    let if2 = c .before .before .before .before .before .before .before .before .before .if2 in
-    let if3 = c .before .before .before .before .before .before .before .before .if3 in
-    let if4 = c .before .before .before .before .before .before .before .if4 in
-    let if5 = c .before .before .before .before .before .before .if5 in
-    let if6 = c .before .before .before .before .before .if6 in
-    let if7 = c .before .before .before .before .if7 in
-    let post-unlock = c .before .before .post-unlock in
-    rw (step-51 (args .c .now) (args .chip .now) (records (args .s .now)) (λ z. if1 .left (byte-at .ensures ∙ z)) (λ z. if2 .left (byte-at .ensures ∙ z)) (λ z. if3 .left (byte-at .ensures ∙ z)) (λ z. if4 .left (byte-at .ensures ∙ z)) (λ z. if5 .left (byte-at .ensures ∙ z)) (λ z. if6 .left (byte-at .ensures ∙ z)) (λ z. if7 .left (byte-at .ensures ∙ z))) (post-unlock .ensures)
+returns-3 c = c .before .before .make-step .ensures
 
 pub session-step-spec : {M : Type 1} → statement M
 session-step-spec =
@@ -143,21 +61,6 @@ session-step-spec =
     abort-requires
     same-length-2
     returns-2
-    make-puk-requires
+    make-step-requires
     same-length-3
-    returns-3
-    make-policy-requires
-    same-length-4
-    returns-4
-    make-key-requires
-    same-length-5
-    returns-5
-    set-path-requires
-    same-length-6
-    returns-6
-    post-delete-requires
-    same-length-7
-    returns-7
-    post-unlock-requires
-    same-length-8
-    returns-8)
+    returns-3)

@@ -1,7 +1,7 @@
 -- The statement, written as a test.
 use borrow.Author.Needs.{needs}
-use Rattle.kin.proofs.is_object.Statement.{statement}
-use Rattle.kin.proofs.is_object.Tie as tie
+use Rattle.pairs.proofs.is_object.Statement.{statement}
+use Rattle.pairs.proofs.is_object.Tie as tie
 
 byte-at-requires : tie.Need-byte-at-requires
 byte-at-requires c κs = search needs
