@@ -1,20 +1,19 @@
 -- A session's own record moved on, and what the paper's outcome is where there is a free place and where there is none.
-use mathlib.Core.Path.{_≡_, refl, sym, ap, _∙_}
-use mathlib.Core.Bool.{Bool, true, false, cond, _&&_, not}
+use mathlib.Core.Path.{_≡_, refl, sym}
+use mathlib.Core.Bool.{Bool, true, false, cond, _&&_}
 use mathlib.Core.List.{List, [], _∷_, map}
-use mathlib.Core.Option.{Option, none, some as just}
-use Prim.Native.Nat.{ℕ, zero, suc, _+_, _/_, _%_}
+use mathlib.Core.Option.{none, some as just}
+use Prim.Native.Nat.{ℕ, _+_, _/_, _%_}
 use native.Mathlib.Numerals.{add-one}
 use lib.Dec.{eqb}
 use lib.ListN.{set}
 use Rattle.paper.specs.Bytes.{enc2, over}
-use Rattle.paper.specs.Form.{Rec, Form, test, only, seek}
+use Rattle.paper.specs.Form.{Rec, test, only, seek}
 use Rattle.paper.specs.Records.{kind, own, session, records, SESSION, is, bears, at, block, room, insert}
-use Rattle.paper.specs.Act.{Out, perform, inside, refuse, advance, moved, wiped, placed, fitsIn}
+use Rattle.paper.specs.Act.{perform, inside, refuse, advance, moved}
 use Rattle.laws.proofs.Lists.{at-block}
 use Rattle.records.specs.View.{Becomes}
 use Rattle.records.proofs.Views.{after}
-use Rattle.ladder.specs.declared.Reply.{Reply}
 use Rattle.ladder.specs.Answers.{Answers}
 
 -- two bytes written over

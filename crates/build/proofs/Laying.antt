@@ -5,11 +5,10 @@ use Prim.Native.Nat.{ℕ, zero, suc, _+_, _-_, _≤_, _<_}
 use native.Mathlib.Omega.{arith}
 use native.Mathlib.Nat.{add-zero}
 use native.Mathlib.Numerals.{add-one}
-use lib.ListN.{length, getD, set, take, drop, replicate, length-append, length-replicate, take-append-drop, replicate-append-replicate}
+use lib.ListN.{length, getD, set, take, drop, length-append, length-replicate, take-append-drop, replicate-append-replicate}
 use lib.Seq.{take-all, length-take-le, take-append-le, take-suc, set-at, append-snoc}
-use Rattle.paper.specs.Limits.{recordBytes}
 use Rattle.paper.specs.Bytes.{zerosOf, enc4}
-use Rattle.paper.specs.Form.{Rec, _=<_}
+use Rattle.paper.specs.Form.{_=<_}
 use Rattle.paper.specs.Act.{flat}
 use Rattle.paper.proofs.Forms.{cases}
 use Rattle.build.specs.declared.Draft.{Draft}

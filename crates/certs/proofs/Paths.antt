@@ -2,8 +2,7 @@
 use mathlib.Core.Path.{_≡_, refl, sym, ap, _∙_}
 use mathlib.Core.Bool.{Bool, true, false, _&&_, cond}
 use mathlib.Core.List.{List, [], _∷_, _++_, map}
-use mathlib.Core.Option.{none}
-use Prim.Native.Nat.{ℕ, zero, suc, _+_, _<_}
+use Prim.Native.Nat.{ℕ, suc, _+_, _<_}
 use native.Mathlib.Nat.{add-zero, add-suc, suc-add}
 use native.Mathlib.Numerals.{add-one}
 use lib.Dec.{eqb}
@@ -14,7 +13,7 @@ use Rattle.sha256.specs.Sha256.{SHA256}
 use Rattle.paper.specs.Form.{Rec, Form, test, only}
 use Rattle.paper.specs.Records.{kind, own, session, SESSION, KEY, is, bears, block}
 use Rattle.paper.specs.Calls.{subject, path}
-use Rattle.paper.specs.Act.{Act, refuse, inside, noAttestation, advance, moved, perform, plain}
+use Rattle.paper.specs.Act.{Act, refuse, advance, moved, perform, plain}
 use Rattle.paper.specs.Objects.{certified, setPath}
 use Rattle.records.specs.View.{Becomes}
 use Rattle.records.proofs.Views.{after}

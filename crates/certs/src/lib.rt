@@ -14,7 +14,7 @@ use slices::byte_at;
 use slices::four_at;
 use slices::part_of;
 ghost use mathlib.Core.Path.{_≡_};
-ghost use mathlib.Core.List.{[], _∷_, map};
+ghost use mathlib.Core.List.{[], map};
 ghost use lib.ListN.{getD, set, take, drop};
 ghost use Rattle.paper.specs.Bytes.{over};
 ghost use Rattle.paper.specs.Form.{only};

@@ -7,7 +7,7 @@ use records::record_at;
 ghost use mathlib.Core.Path.{_≡_};
 ghost use mathlib.Core.List.{[], _∷_, map};
 ghost use Prim.Native.Nat.{_+_, _/_, _%_, _<_};
-ghost use lib.ListN.{length, getD, set};
+ghost use lib.ListN.{getD, set};
 ghost use Rattle.paper.specs.Bytes.{over};
 ghost use Rattle.paper.specs.Form.{only};
 ghost use Rattle.paper.specs.Records.{records, is, bears, zeros, insert as inserted};

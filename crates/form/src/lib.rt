@@ -7,7 +7,6 @@ use slices::string_at;
 use slices::two_at;
 ghost use mathlib.Core.Path.{_≡_};
 ghost use mathlib.Core.Bool.{_&&_, _||_};
-ghost use Prim.Native.Nat.{_≤_};
 ghost use lib.Dec.{leb};
 ghost use Rattle.paper.specs.Bytes.{within};
 ghost use Rattle.paper.specs.Form.{test};

@@ -1,6 +1,6 @@
 -- HMAC of RFC 2104 with SHA-256, over lists of bytes: B = 64 bytes of a block, L = 32 of a hash.
 use mathlib.Core.Bool.{Bool, true, false}
-use mathlib.Core.List.{List, [], _∷_, _++_, map}
+use mathlib.Core.List.{List, _++_, map}
 use Prim.Native.Nat.{ℕ, _-_}
 use lib.Bits.{bitXor}
 use lib.Dec.{leb}

@@ -1,27 +1,25 @@
 -- Where no policy lets a PIN of more than 16 bytes by, as in a sound store, a new key's record has 256 bytes and nothing is cut.
-use mathlib.Core.Path.{_≡_, refl, sym, ap, _∙_}
+use mathlib.Core.Path.{_≡_, refl, sym, _∙_}
 use mathlib.Core.Bool.{Bool, true, false, cond, _&&_}
-use mathlib.Core.List.{List, [], _∷_, _++_}
-use mathlib.Core.Option.{some as just}
+use mathlib.Core.List.{List, [], _∷_}
 use Prim.Native.Nat.{ℕ, zero, suc, _≤_}
 use native.Mathlib.Omega.{arith}
-use borrow.Author.Tests.{eqb-true, eq-eqb, ne-eqb, leb-true}
-use lib.Dec.{eqb, leb}
+use borrow.Author.Tests.{eq-eqb, leb-true}
+use lib.Dec.{leb}
 use lib.ListN.{length, length-append, length-replicate}
 use Rattle.paper.specs.Bytes.{byte, within}
-use Rattle.paper.specs.Form.{Rec, Form, _==_, test, Fact, some, Fault, _gives_, settle}
+use Rattle.paper.specs.Form.{Rec, _==_, test, Fact, some, Fault, _gives_, settle}
 use Rattle.paper.specs.Records.{POLICY, is, at, block, longest}
 use Rattle.paper.specs.Table.{obeysTable}
 use Rattle.paper.specs.Sound.{Sound}
 use Rattle.paper.specs.Text.{pinFits, formatFits, patternFits}
 use Rattle.paper.specs.Calls.{subject, Key, key, keyForm}
-use Rattle.paper.specs.Act.{Act, refuse}
+use Rattle.paper.specs.Act.{refuse}
 use Rattle.paper.specs.Objects.{pinOf, breaksRule, keyRecord, makeKey}
 use Rattle.paper.proofs.Forms.{both, cases, contrary, Clear}
 use Rattle.laws.proofs.Bytes.{split}
 use Rattle.laws.proofs.Fields.{tabled-field}
 use Rattle.laws.proofs.Lists.{at-block, at-found, at-none}
-use Rattle.build.specs.Drafts.{laid}
 use Rattle.build.proofs.Laying.{laid-whole}
 use Rattle.ladder.specs.Rungs.{status, proper}
 use Rattle.ladder.proofs.Climbs.{settle-done, settle-not}

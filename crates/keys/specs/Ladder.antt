@@ -1,7 +1,7 @@
 -- Method 10's list of refusals at the store's records, as the paper has it, without room for the new record; and what is kept of a
 -- record that would be longer than 256 bytes.
 use mathlib.Core.List.{List}
-use mathlib.Core.Option.{Option, none, some as just}
+use mathlib.Core.Option.{none, some as just}
 use Prim.Native.Nat.{ℕ}
 use Rattle.hmac.specs.Same.{same}
 use Rattle.paper.specs.Form.{Rec, Form, say, no, _and_, Fault}

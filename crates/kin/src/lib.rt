@@ -12,7 +12,6 @@ use slices::byte_at;
 use slices::four_at;
 use slices::part_of;
 ghost use mathlib.Core.Path.{_≡_};
-ghost use lib.ListN.{length};
 ghost use Rattle.paper.specs.Form.{test, each, some, seek, _==_, no, _then_};
 ghost use Rattle.paper.specs.Records.{records, kind, parent, session};
 ghost use Rattle.paper.specs.Sound.{orphaned, there, sessionThere, keyThere, targetThere, housed, childless, policiesUsed, governs, pinsShared};

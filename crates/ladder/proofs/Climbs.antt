@@ -1,12 +1,12 @@
 -- A ladder climbed rung by rung comes to the status of its list, and the status says what the paper's outcome is.
 use mathlib.Core.Path.{_≡_, refl, sym, _∙_}
-use mathlib.Core.Bool.{Bool, true, false, cond, _&&_}
+use mathlib.Core.Bool.{Bool, true, false, cond}
 use mathlib.Core.List.{List, [], _∷_}
 use Prim.Native.Nat.{ℕ, zero, suc}
 use native.Mathlib.Omega.{arith}
 use Rattle.paper.specs.Form.{test, Fault, _gives_, settle}
 use Rattle.paper.proofs.Forms.{contrary}
-use Rattle.ladder.specs.Rungs.{status, orElse, climb, isNumber, proper}
+use Rattle.ladder.specs.Rungs.{status, orElse, climb, proper}
 
 -- one rung
 pub kept : (n : ℕ) (t : Bool) (s : ℕ) → (n ≡ 0 → ⊥) → n ≡ orElse n t s

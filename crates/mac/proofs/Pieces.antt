@@ -1,11 +1,11 @@
 -- Laws of MAC data and keys put together piece by piece.
-use mathlib.Core.Path.{_≡_, refl, sym, ap, _∙_}
+use mathlib.Core.Path.{_≡_, sym, ap, _∙_}
 use mathlib.Core.List.{List, [], _∷_, _++_, append-assoc, append-nil}
 use Prim.Native.Nat.{ℕ, zero, suc, _+_, _-_, _≤_, _<_}
 use native.Mathlib.Nat.{zero-add}
 use native.Mathlib.Numerals.{add-one}
 use native.Mathlib.Omega.{arith}
-use lib.ListN.{length, getD, take, drop, set, length-take}
+use lib.ListN.{length, getD, take, set, length-take}
 use lib.Seq.{take-suc, take-suc-set, take-all}
 use Rattle.paper.specs.Bytes.{part, behind, stringAt, enc2, string}
 use Rattle.paper.specs.Calls.{strings}

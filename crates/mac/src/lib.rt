@@ -6,7 +6,7 @@ use slices::string_at;
 use slices::text_at;
 use slices::two_at;
 ghost use mathlib.Core.Path.{_≡_};
-ghost use mathlib.Core.List.{List, [], _∷_, _++_};
+ghost use mathlib.Core.List.{List, [], _++_};
 ghost use Prim.Native.Nat.{ℕ, _+_, _≤_};
 ghost use lib.ListN.{length, take};
 ghost use Rattle.hmac.specs.Keyed.{Keyed};

@@ -4,18 +4,17 @@ use mathlib.Core.Path.{_≡_, sym, ap, subst, _∙_}
 use mathlib.Core.Bool.{true}
 use mathlib.Core.List.{List, [], List·Memᴰ}
 use mathlib.Core.Logic.{_⊎_, inl, inr}
-use Prim.Native.Nat.{ℕ, suc, _+_, _≤_, _<_}
+use Prim.Native.Nat.{ℕ, suc, _≤_, _<_}
 use native.Mathlib.Omega.{arith}
 use lib.ListN.{length, getD}
-use Rattle.hmac.specs.Same.{same}
 use Rattle.hmac.proofs.Sameness.{same-eq, eq-same}
 use Rattle.paper.specs.Bytes.{part}
 use Rattle.paper.specs.Form.{Rec, _=<_, Fact, Pairs, test}
-use Rattle.paper.specs.Records.{kind, SESSION, PUK, POLICY, KEY, PENDING, COUNTER, own, session, parent, sessionOf, grouping}
+use Rattle.paper.specs.Records.{kind, SESSION, KEY, PENDING, COUNTER, own, session, parent, sessionOf, grouping}
 use Rattle.paper.specs.Sound.{isObject, hasHandle, hasCounter, closed, governs, related, Sound}
 use Rattle.paper.proofs.Forms.{cases}
 use Rattle.laws.proofs.Lists.{pairs-cases}
-use Rattle.laws.proofs.Facts.{Alone, Distinct, Related, Housed, Used, Shares, Facts, related-of, reify}
+use Rattle.laws.proofs.Facts.{Alone, Distinct, Related, Housed, Used, Shares, related-of, reify}
 use Rattle.near.specs.Near.{Sited}
 use Rattle.near.proofs.Places.{stands, found, apart-at, there-at}
 

@@ -1,14 +1,12 @@
 -- What the first record's kind leaves of the clauses about one record and another.
-use mathlib.Core.Bool.{Bool, true, false, not, _&&_, _||_, and-true}
+use mathlib.Core.Bool.{Bool, true, false, not, _||_, and-true}
 use lib.Dec.{eqb}
 use mathlib.Core.Path.{_≡_, refl, sym, _∙_}
-use mathlib.Core.List.{List}
-use mathlib.Core.Logic.{_⊎_, inl, inr}
-use Prim.Native.Nat.{ℕ, _≤_}
+use mathlib.Core.Logic.{inl, inr}
 use native.Mathlib.Omega.{arith}
 use borrow.Author.Tests.{ne-eqb}
 use Rattle.paper.specs.Form.{Rec, Form, _and_, test, Fact}
-use Rattle.paper.specs.Records.{kind, own, session, parent, operation, SESSION, POLICY, KEY, PENDING, COUNTER}
+use Rattle.paper.specs.Records.{kind, own, session, parent, operation, SESSION, POLICY, KEY, PENDING}
 use Rattle.paper.specs.Sound.{hasId, oneCounter, handlesDiffer, clientsDiffer, distinct, isObject, related, targetPinned, belowCounter}
 use Rattle.paper.proofs.Forms.{both, contrary}
 use Rattle.pairs.specs.Kinds.{ofSession, ofPolicy, concerned}

@@ -7,7 +7,7 @@ use slices::part_of;
 use slices::two_at;
 ghost use mathlib.Core.Path.{_≡_};
 ghost use Rattle.paper.specs.Form.{test, _and_};
-ghost use Rattle.paper.specs.Sound.{hasHandle, hasId, isObject, oneCounter, handlesDiffer, idsDiffer, clientsDiffer, onePending, distinct, belowNext, belowCounter, governs, pukForProtection, keyCounts, pathsSet, pendingOpen, targetManaged, targetPinned, related, closed};
+ghost use Rattle.paper.specs.Sound.{hasHandle, hasId, isObject, oneCounter, handlesDiffer, idsDiffer, clientsDiffer, onePending, distinct, belowNext, belowCounter, governs, pathsSet, pendingOpen, targetManaged, targetPinned, related, closed};
 ghost use Rattle.pairs.specs.Kinds.{ofSession, ofPolicy, concerned};
 
 fn one_counter(x: &[u8], y: &[u8]) -> bool

@@ -6,8 +6,8 @@ use mathlib.Core.Option.{Option, none, some as just}
 use Prim.Native.Nat.{ℕ, _+_}
 use Rattle.paper.specs.Limits.{macBytes, mostObjects}
 use Rattle.paper.specs.Bytes.{enc2, zerosOf, over}
-use Rattle.paper.specs.Form.{Rec, Form, _==_, _=<_, say, no, _and_, test, only}
-use Rattle.paper.specs.Records.{kind, SESSION, is, bears, nextObject, macCounter, keyLimit, zeros, room, insert}
+use Rattle.paper.specs.Form.{Rec, Form, _=<_, no, _and_, test, only}
+use Rattle.paper.specs.Records.{SESSION, is, bears, nextObject, macCounter, keyLimit, zeros, room, insert}
 use Rattle.paper.specs.Closing.{closing}
 
 -- What the caller sees, and the records afterwards.

@@ -1,16 +1,16 @@
 -- The answer: from store, call, chip bytes and reply to status, store afterwards and reply afterwards, for all inputs; and format's.
-use mathlib.Core.Bool.{Bool, cond}
+use mathlib.Core.Bool.{cond}
 use mathlib.Core.List.{List, [], _∷_, _++_}
 use Prim.Native.Nat.{ℕ, _-_, _/_}
 use lib.ListN.{length, replicate}
 use lib.Dec.{eqb, ltb}
 use Rattle.paper.specs.Limits.{recordBytes, replyBytes}
-use Rattle.paper.specs.Bytes.{four, enc4, over, zerosOf}
+use Rattle.paper.specs.Bytes.{enc4, over, zerosOf}
 use Rattle.paper.specs.Form.{Rec, Form, _==_, say, no, _and_, test, Fault, _gives_, settle}
 use Rattle.paper.specs.Records.{records, joined, SESSION, COUNTER, OPEN, at, state, block, zeros}
 use Rattle.paper.specs.Sound.{lengthFits, sound}
 use Rattle.paper.specs.Calls.{method, subject, isSessionCall, known, post}
-use Rattle.paper.specs.Act.{Out, plain, noAttestation, Act, refuse, perform}
+use Rattle.paper.specs.Act.{Out, noAttestation, Act, perform}
 use Rattle.paper.specs.Objects.{makePuk, makePolicy, makeKey, setPath}
 use Rattle.paper.specs.Posting.{Look, look, postDelete, postUnlock}
 use Rattle.paper.specs.Sessions.{createSession, closeSession, abortSession}

@@ -1,14 +1,13 @@
 -- Calls: where each field of the thirteen methods stands, the fields by name, and the form that a call and its chip bytes have.
 -- A field is read wherever it would stand; the form is one statement about them. Its last clause, that the fields end where the
 -- call ends, puts every field inside the call: nothing is missing and nothing left over.
-use mathlib.Core.Bool.{Bool, true, false, _&&_, _||_, cond}
-use mathlib.Core.List.{List, [], _∷_, _++_}
+use mathlib.Core.Bool.{true, false}
+use mathlib.Core.List.{List, [], _∷_}
 use Prim.Native.Nat.{ℕ, zero, suc, _+_}
 use lib.ListN.{length}
-use lib.Dec.{eqb}
 use Rattle.paper.specs.Limits.{shortestCall, longestCall, longestId, longestPin, longestPublicKey, keyBytes, macBytes, longestServerKey, longestManagementKey, longestUri, longestNonce, longestEncrypted, longestPinValue, longestSeed, longestName, longestParameters, longestAuthorization}
 use Rattle.paper.specs.Bytes.{byte, two, four, part, stringAt, behind}
-use Rattle.paper.specs.Form.{Form, _==_, _=<_, say, no, _and_, _or_, _then_}
+use Rattle.paper.specs.Form.{Form, _==_, _=<_, say, _and_, _or_, _then_}
 use Rattle.paper.specs.Table.{printable}
 
 -- Byte 0 is the method. Session calls start with the session handle, user calls with a key handle.

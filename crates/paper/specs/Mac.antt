@@ -1,5 +1,5 @@
 -- MACs and attestations: key, name, counter and data. Data speaks of the call's fields by name, never of places.
-use mathlib.Core.Bool.{Bool, true, false, cond, _||_}
+use mathlib.Core.Bool.{Bool, false, cond, _||_}
 use mathlib.Core.List.{List, [], _∷_, _++_}
 use Prim.Native.Nat.{ℕ, _+_}
 use Prim.Native.String.{String}
@@ -7,8 +7,8 @@ use lib.Dec.{eqb}
 use Rattle.hmac.specs.Hmac.{HMAC}
 use Rattle.hmac.specs.Same.{same}
 use Rattle.paper.specs.Bytes.{enc2, string, ascii}
-use Rattle.paper.specs.Form.{Rec, Form, say, no}
-use Rattle.paper.specs.Records.{sessionKey, macCounter, clientId, id, publicKey, userDefined, POLICY, PUK}
+use Rattle.paper.specs.Form.{Rec}
+use Rattle.paper.specs.Records.{sessionKey, macCounter, clientId, id, publicKey, userDefined, PUK}
 use Rattle.paper.specs.Calls.{Close, Puk, Policy, Key, Path, Post}
 
 -- HMAC-SHA256 with key SessionKey, the name as plain bytes, and the counter joined.

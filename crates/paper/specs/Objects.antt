@@ -1,10 +1,9 @@
 -- Methods 8, 9, 10 and 12: a session makes PUKs, PIN policies and keys, and gives keys their paths. For each its refusals in the
 -- paper's order, and what it does when none applies. `blk` are the session's own records.
-use mathlib.Core.Bool.{Bool, true, false, cond, _&&_, _||_}
-use mathlib.Core.List.{List, [], _∷_, _++_}
-use mathlib.Core.Option.{Option, none, some as just}
-use Prim.Native.Nat.{ℕ, _+_}
-use Prim.Native.String.{String}
+use mathlib.Core.Bool.{cond}
+use mathlib.Core.List.{List, [], _∷_}
+use mathlib.Core.Option.{none, some as just}
+use Prim.Native.Nat.{ℕ}
 use lib.ListN.{length}
 use lib.Dec.{eqb}
 use Rattle.sha256.specs.Sha256.{SHA256}
@@ -12,7 +11,7 @@ use Rattle.hmac.specs.Same.{same}
 use Rattle.paper.specs.Limits.{longestId, longestPin, longestPublicKey, lastFormat, lastGrouping, lastPatterns, lastProtection}
 use Rattle.paper.specs.Bytes.{enc4, padded, over, zerosOf, ascii}
 use Rattle.paper.specs.Form.{Rec, Form, _==_, _=<_, say, no, _and_, _or_, some, only, Fault, _gives_, settle}
-use Rattle.paper.specs.Records.{kind, PUK, POLICY, KEY, SESSION, is, at, own, session, parent, id, value, format, grouping, userDefined, pathSet}
+use Rattle.paper.specs.Records.{kind, PUK, POLICY, KEY, SESSION, is, at, own, session, parent, id, value, format, grouping, pathSet}
 use Rattle.paper.specs.Sound.{hasId, governs}
 use Rattle.paper.specs.Text.{formatFits, pinFits}
 use Rattle.paper.specs.Calls.{subject, Puk, puk, pukForm, Policy, policy, policyForm, Key, key, keyForm, Path, path, pathForm}

@@ -1,6 +1,6 @@
 -- Records: kinds, fields by name, handles, look-ups, the lowest free place. The fields' ranges are in Table.antt.
-use mathlib.Core.Bool.{Bool, true, false, cond}
-use mathlib.Core.List.{List, [], _∷_, _++_, map}
+use mathlib.Core.Bool.{Bool, cond}
+use mathlib.Core.List.{List, [], _∷_, _++_}
 use Prim.Native.Nat.{ℕ, zero, suc, _+_, _*_, _/_}
 use lib.ListN.{length, take, drop}
 use Rattle.hmac.specs.Same.{same}

@@ -1,6 +1,6 @@
 -- When a store is sound, clause by clause in the paper's order. Each clause is of one record, of a pair of records, or says that
 -- some record is there; none looks a record up. Whoever stands under another also bears the same session.
-use mathlib.Core.Bool.{Bool, _&&_, not}
+use mathlib.Core.Bool.{Bool, _&&_}
 use mathlib.Core.List.{List}
 use Prim.Native.Nat.{ℕ, suc, _+_, _*_, _/_, _%_}
 use lib.ListN.{length}

@@ -1,10 +1,10 @@
 -- The table of records: the fields of each kind in order, with their ranges. Every byte not named is zero.
-use mathlib.Core.Bool.{Bool, true, false, _&&_, cond}
+use mathlib.Core.Bool.{Bool, true, _&&_, cond}
 use mathlib.Core.List.{List, [], _∷_}
 use Prim.Native.Nat.{ℕ, zero, suc, _+_, _-_}
 use lib.ListN.{length}
 use lib.Dec.{eqb}
-use Rattle.paper.specs.Limits.{recordBytes, mostObjects, mostSessions, handleStep, longestId, longestPin, longestPublicKey, keyBytes, lastFormat, lastGrouping, lastPatterns, lastProtection}
+use Rattle.paper.specs.Limits.{recordBytes, mostObjects, handleStep, longestId, longestPin, longestPublicKey, keyBytes, lastFormat, lastGrouping, lastPatterns, lastProtection}
 use Rattle.paper.specs.Bytes.{byte, two, four, part, within, allWithin, textAt}
 use Rattle.paper.specs.Form.{Rec}
 use Rattle.paper.specs.Records.{kind, FREE, SESSION, PUK, POLICY, KEY, PENDING, COUNTER, OPEN, CLOSED}

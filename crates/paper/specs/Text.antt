@@ -3,7 +3,7 @@ use mathlib.Core.Bool.{Bool, true, false, not, _&&_, _||_, cond}
 use mathlib.Core.List.{List, [], _∷_}
 use Prim.Native.Nat.{ℕ, zero, suc, _+_, _/_, _%_}
 use lib.ListN.{length}
-use lib.Dec.{eqb, leb}
+use lib.Dec.{eqb}
 use Rattle.paper.specs.Bytes.{within, allWithin}
 use Rattle.paper.specs.Form.{Rec}
 use Rattle.paper.specs.Records.{format, patterns, shortest, longest}

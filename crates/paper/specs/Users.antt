@@ -1,19 +1,19 @@
 -- Methods 80, 82, 83 and 100: the user deletes, unlocks, changes or uses a key of a closed session. A refusal changes at most one
 -- error count.
-use mathlib.Core.Bool.{Bool, cond}
+use mathlib.Core.Bool.{cond}
 use mathlib.Core.List.{List, [], _∷_, map}
 use Prim.Native.Nat.{ℕ}
 use lib.ListN.{length}
 use lib.Dec.{eqb}
 use Rattle.paper.specs.Limits.{longestPin}
 use Rattle.paper.specs.Bytes.{padded, over}
-use Rattle.paper.specs.Form.{Rec, Form, _==_, say, no, _and_, _or_, some, test, only, Fault, _gives_, settle}
-use Rattle.paper.specs.Records.{kind, PUK, POLICY, KEY, PENDING, at, own, session, parent, grouping, userModifiable, deleteProtection}
+use Rattle.paper.specs.Form.{Rec, Form, _==_, say, no, _and_, _or_, some, only, Fault, _gives_, settle}
+use Rattle.paper.specs.Records.{kind, PUK, POLICY, PENDING, at, own, session, parent, grouping, userModifiable, deleteProtection}
 use Rattle.paper.specs.Sound.{governs}
 use Rattle.paper.specs.Text.{pinFits}
 use Rattle.paper.specs.Calls.{subject, typed, typedNew, typedForm, changeForm}
-use Rattle.paper.specs.Pin.{Verdict, locked, wrong, right, pinCheck, pukCheck, theKey, pinMissed, pinHit, pukMissed, pukHit, clear}
-use Rattle.paper.specs.Closing.{Keys, one, none, effect, stale}
+use Rattle.paper.specs.Pin.{Verdict, locked, wrong, right, pinCheck, pukCheck, theKey, pinMissed, pinHit, pukMissed, pukHit}
+use Rattle.paper.specs.Closing.{one, none, effect, stale}
 use Rattle.paper.specs.Objects.{notThere}
 use Rattle.paper.specs.Posting.{target, isTarget}
 use Rattle.paper.specs.Act.{Out, plain}

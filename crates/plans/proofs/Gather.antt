@@ -13,7 +13,6 @@ use Rattle.paper.specs.Closing.{one, holds}
 use Rattle.paper.proofs.Forms.{cases}
 use Rattle.plans.proofs.Scans.{some-split, some-end}
 use Rattle.plans.specs.declared.Keys.{Keys}
-use Rattle.plans.specs.declared.Keys.the-variants.{Held}
 use Rattle.plans.specs.Sets.{keysOf, holding, pendingOf, Joined}
 
 eqb-flip : (a b : ℕ) → eqb a b ≡ eqb b a

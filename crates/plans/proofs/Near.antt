@@ -1,23 +1,23 @@
 -- Marks and homes: a mark says whether the key is of the set, and where no key of the set is at home nothing goes and no PUK is unlocked.
 use mathlib.Core.Bool.{Bool, true, false, cond, _&&_, _||_, and-false}
-use mathlib.Core.Path.{_≡_, refl, sym, ap, _∙_}
+use mathlib.Core.Path.{_≡_, refl, sym, _∙_}
 use mathlib.Core.List.{List, [], _∷_}
-use Prim.Native.Nat.{ℕ, zero, suc, _+_, _/_, _≤_, _<_}
+use Prim.Native.Nat.{ℕ, suc, _+_, _/_, _≤_, _<_}
 use native.Mathlib.Omega.{arith}
 use borrow.Author.Tests.{eqb-true, eq-eqb, ne-eqb}
 use lib.Dec.{eqb}
 use lib.ListN.{length, getD}
 use Rattle.paper.specs.Bytes.{byte}
-use Rattle.paper.specs.Form.{Rec, Form, _==_, _and_, test, some, exists}
+use Rattle.paper.specs.Form.{Rec, Form, _==_, _and_, test, exists}
 use Rattle.paper.specs.Records.{records, kind, own, session, parent, state, SESSION, CLOSED, PUK, POLICY, KEY, PENDING}
-use Rattle.paper.specs.Closing.{Keys as Set, none, lost, keyGoes, policyGoes, pukGoes, sessionGoes, keyUnlocked, pukUnlocked, one}
+use Rattle.paper.specs.Closing.{Keys as Set, keyGoes, policyGoes, pukGoes, sessionGoes, keyUnlocked, pukUnlocked, one}
 use Rattle.paper.proofs.Forms.{both, cases, contrary}
 use Rattle.records.proofs.Views.{length-records}
 use Rattle.plans.specs.declared.Homes.{Homes}
-use Rattle.plans.specs.declared.Homes.the-variants.{Nowhere, Few, Everywhere}
+use Rattle.plans.specs.declared.Homes.the-variants.{Nowhere, Few}
 use Rattle.plans.specs.declared.Under.the-variants.{Policy}
 use Rattle.plans.specs.declared.Lot.the-variants.{Unlocked}
-use Rattle.plans.specs.Fate.{fate, Plan}
+use Rattle.plans.specs.Fate.{fate}
 use Rattle.plans.specs.Sets.{mark, Marked, homesOf, Widened, Extended, AtHome, AllHome, homeOf, under, policySo, parentGoes}
 use Rattle.plans.proofs.Scans.{puk-unlocked}
 

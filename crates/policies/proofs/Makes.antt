@@ -1,16 +1,15 @@
 -- What methods 8 and 9 come to, by their status: refused with it, or a new record, which has 256 bytes where the call has its form.
-use mathlib.Core.Path.{_≡_, refl, sym, ap, _∙_}
-use mathlib.Core.Bool.{Bool, true, false}
-use mathlib.Core.List.{List, [], _∷_, _++_}
+use mathlib.Core.Path.{_≡_, refl, _∙_}
+use mathlib.Core.Bool.{true}
+use mathlib.Core.List.{List}
 use mathlib.Core.Option.{some as just}
-use Prim.Native.Nat.{ℕ, _+_, _-_, _≤_}
+use Prim.Native.Nat.{ℕ}
 use native.Mathlib.Omega.{arith}
 use lib.ListN.{length, length-append, length-replicate}
-use Rattle.paper.specs.Bytes.{stringAt, two}
 use Rattle.paper.specs.Form.{Rec, test}
-use Rattle.paper.specs.Records.{SESSION, PUK, at, block}
+use Rattle.paper.specs.Records.{block}
 use Rattle.paper.specs.Calls.{subject, puk, pukForm, policy, policyForm}
-use Rattle.paper.specs.Act.{Act, refuse, inside, noAttestation, advance, fresh}
+use Rattle.paper.specs.Act.{refuse, inside, noAttestation, advance, fresh}
 use Rattle.paper.specs.Objects.{pukRecord, makePuk, policyRecord, makePolicy}
 use Rattle.paper.proofs.Forms.{both}
 use Rattle.build.specs.Drafts.{laid}

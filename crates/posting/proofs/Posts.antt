@@ -1,5 +1,5 @@
 -- What methods 50 and 51 come to, by their status; and that a session's pendings on a key are found in the whole store.
-use mathlib.Core.Path.{_≡_, refl, sym, ap, _∙_}
+use mathlib.Core.Path.{_≡_, refl, _∙_}
 use mathlib.Core.Bool.{Bool, true, false, _&&_}
 use mathlib.Core.List.{List, [], _∷_}
 use mathlib.Core.Option.{some as just}

@@ -1,14 +1,14 @@
 -- A free record is 256 zeros: the comparison with them is a test of every byte.
-use mathlib.Core.Bool.{Bool, true, false, _&&_}
-use mathlib.Core.Path.{_≡_, refl, sym, ap, _∙_}
+use mathlib.Core.Bool.{false}
+use mathlib.Core.Path.{_≡_, refl, ap, _∙_}
 use mathlib.Core.List.{List, [], _∷_}
 use Prim.Native.Nat.{ℕ, zero, suc}
 use borrow.Author.Tests.{le-leb, lt-leb, ne-eqb}
 use native.Mathlib.Omega.{arith}
-use lib.Dec.{eqb, leb}
-use lib.ListN.{length, getD, replicate, length-replicate}
+use lib.Dec.{eqb}
+use lib.ListN.{length, getD, length-replicate}
 use Rattle.hmac.specs.Same.{same}
-use Rattle.hmac.proofs.Sameness.{same-eq, test-same}
+use Rattle.hmac.proofs.Sameness.{test-same}
 use Rattle.paper.specs.Bytes.{within, allWithin, zerosOf}
 use Rattle.paper.specs.Records.{zeros, isFree}
 

@@ -3,15 +3,15 @@
 use mathlib.Core.Bool.{Bool, true, false, cond, _||_}
 use mathlib.Core.Path.{_≡_, refl, sym, ap, _∙_}
 use mathlib.Core.List.{List, [], _∷_}
-use Prim.Native.Nat.{ℕ, zero, suc, _+_, _/_, _≤_, _<_, compare·suc-suc}
+use Prim.Native.Nat.{ℕ, suc, _+_, _/_, _≤_, _<_, compare·suc-suc}
 use native.Mathlib.Omega.{arith}
 use borrow.Author.Tests.{lt-ltb}
 use lib.Dec.{ltb}
 use lib.ListN.{length, getD, drop, set}
-use Rattle.paper.specs.Form.{Rec, Form, say, test, some, exists, seek}
+use Rattle.paper.specs.Form.{Rec, Form, say, test, some, seek}
 use Rattle.paper.specs.Records.{records, isFree, insert}
 use Rattle.records.specs.View.{index}
-use Rattle.records.proofs.Views.{records-from, records-end, length-records}
+use Rattle.records.proofs.Views.{records-from, records-end}
 
 -- what a test of a record that was shown says of the record
 pub told : (φ : Rec → Form) {x y : Rec} {b t : Bool} → x ≡ y → b ≡ test (φ x) → b ≡ t → test (φ y) ≡ t

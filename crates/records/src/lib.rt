@@ -7,7 +7,7 @@ ghost use mathlib.Core.Path.{_≡_};
 ghost use mathlib.Core.List.{[]};
 ghost use lib.ListN.{length, getD};
 ghost use Rattle.paper.specs.Form.{test, _==_, some, seek};
-ghost use Rattle.paper.specs.Records.{records, kind as kindOf, is, bears as bearsIt, isFree};
+ghost use Rattle.paper.specs.Records.{records, is, bears as bearsIt, isFree};
 ghost use Rattle.paper.specs.Closing.{held, pendingOn, one};
 ghost use Rattle.records.specs.View.{index};
 ghost use Rattle.records.specs.Choices.{chosen};

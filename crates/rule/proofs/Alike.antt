@@ -3,7 +3,6 @@ use mathlib.Core.Path.{_≡_, refl, sym, ap, ap₂, subst, _∙_}
 use mathlib.Core.Bool.{Bool, true, false, cond}
 use mathlib.Core.List.{List, [], _∷_, map, List·Memᴰ, List·Memᴰ·head, List·Memᴰ·tail}
 use mathlib.Core.Logic.{_⊎_, inl, inr}
-use mathlib.Core.Option.{Option}
 use Prim.Native.Nat.{ℕ, _≤_}
 use Prim.Native.String.{String}
 use native.Mathlib.Omega.{arith}
@@ -11,16 +10,15 @@ use lib.Dec.{lit≤}
 use Rattle.paper.specs.Form.{Rec, Form, _==_, no, _and_, some, test, Fact, only, keep}
 use Rattle.paper.specs.Records.{records, kind, SESSION, KEY, OPEN, CLOSED, own, session, state, bears, block, is, at, sessionOf}
 use Rattle.paper.specs.Sound.{sound}
-use Rattle.paper.specs.Calls.{method, subject, isSessionCall, post, postForm}
-use Rattle.paper.specs.Posting.{target, home, isTarget, Look, look, postFaults, postAs, postDelete, postUnlock}
+use Rattle.paper.specs.Calls.{subject, post, postForm}
+use Rattle.paper.specs.Posting.{target, home, isTarget, Look, look, postAs}
 use Rattle.paper.specs.Act.{Out, Act, refuse, inside, close as closes, placed, fitsIn, wiped, perform}
-use Rattle.paper.specs.Answer.{Answer, answer, isOpen, step, sessionStep, sessionAct, written}
-use Rattle.paper.proofs.Forms.{both, cases, contrary}
+use Rattle.paper.specs.Answer.{Answer, answer, step, sessionStep, sessionAct, written}
+use Rattle.paper.proofs.Forms.{both, cases}
 use Rattle.laws.proofs.Choice.{choose}
 use Rattle.laws.proofs.Lists.{mem-keep, keep-mem, at-found, at-byte}
 use Rattle.laws.proofs.Facts.{Facts}
 use Rattle.laws.proofs.Handles.{unique, at-is}
-use Rattle.rule.specs.Refusals.{Taken}
 use Rattle.rule.specs.NobodyWaits.{another's, aside, NobodyWaits}
 use Rattle.rule.proofs.Kept.{facts}
 use Rattle.rule.proofs.Own.{some-number}

@@ -1,28 +1,27 @@
 -- Status 0 means that no refusal of the method's list applied, the MAC's among them.
 use mathlib.Core.Path.{_≡_, refl, sym, ap, ap₂, _∙_}
-use mathlib.Core.Bool.{Bool, true, false, not, _&&_, _||_, cond}
+use mathlib.Core.Bool.{Bool, true, false, not, _&&_, cond}
 use mathlib.Core.List.{List, [], _∷_}
-use mathlib.Core.Logic.{_⊎_, inl, inr}
+use mathlib.Core.Logic.{inl, inr}
 use Prim.Native.Nat.{ℕ, _≤_}
 use Prim.Native.String.{String}
 use native.Mathlib.Omega.{arith}
-use lib.Dec.{eqb, leb}
+use lib.Dec.{leb}
 use borrow.Author.Tests.{leb-true}
 use Rattle.hmac.specs.Same.{same}
 use Rattle.hmac.proofs.Sameness.{same-eq}
-use Rattle.paper.specs.Form.{Rec, Form, say, no, test, Fact, Fault, _gives_, settle}
+use Rattle.paper.specs.Form.{Rec, say, no, test, Fact, Fault, _gives_, settle}
 use Rattle.paper.specs.Records.{records, SESSION, PUK, POLICY, KEY, at, block}
 use Rattle.paper.specs.Calls.{method, subject, isSessionCall, close, puk, policy, key, path, post}
 use Rattle.paper.specs.Mac.{mac, closeData, pukData, policyData, keyData, pathData, postData}
 use Rattle.paper.specs.Objects.{pukFaults, makePuk, policyFaults, makePolicy, keyFaults, makeKey, pathFaults, setPath}
 use Rattle.paper.specs.Posting.{Look, look, postFaults, postAs, postDelete, postUnlock}
-use Rattle.paper.specs.Sessions.{closeFaults, closeSession, abortSession}
+use Rattle.paper.specs.Sessions.{closeFaults, closeSession}
 use Rattle.paper.specs.Act.{Out, Act, refuse, perform}
-use Rattle.paper.specs.Answer.{answer, sessionAct, sessionStep, step}
-use Rattle.paper.proofs.Forms.{Agree, both, cases, contrary, Clear}
+use Rattle.paper.specs.Answer.{sessionAct, sessionStep}
+use Rattle.paper.proofs.Forms.{Agree, both, contrary, Clear}
 use Rattle.laws.proofs.Choice.{holds}
 use Rattle.laws.proofs.Lists.{at-block}
-use Rattle.rule.specs.Refusals.{Taken}
 use Rattle.rule.specs.Checked.{caller, object, Accepted, Checked}
 use Rattle.rule.proofs.Refusing.{status-is, session-step}
 

@@ -1,7 +1,7 @@
 -- Soundness is not empty, and each clause bites: a sound store with every kind of record, and for each clause one change of one
 -- record of it that breaks the clause.
 use mathlib.Core.Path.{_≡_, refl}
-use mathlib.Core.Bool.{Bool, true, false, not, _&&_}
+use mathlib.Core.Bool.{Bool, true, not, _&&_}
 use mathlib.Core.List.{List, [], _∷_}
 use Prim.Native.Nat.{ℕ, zero, suc, _+_, _*_}
 use Rattle.hmac.specs.Same.{same}

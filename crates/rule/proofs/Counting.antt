@@ -2,7 +2,7 @@
 use mathlib.Core.Path.{_≡_, refl, sym, ap, subst, _∙_}
 use mathlib.Core.Bool.{Bool, true, false, cond}
 use mathlib.Core.List.{List, [], _∷_, map, List·Memᴰ, Memᴰ·map}
-use mathlib.Core.Logic.{_⊎_, inl, inr}
+use mathlib.Core.Logic.{inl, inr}
 use mathlib.Core.Option.{Option, none, some as just}
 use Prim.Native.Nat.{ℕ, _+_, _≤_, _<_}
 use Prim.Native.String.{String}
@@ -11,27 +11,26 @@ use lib.ListN.{length}
 use lib.Dec.{lit≤}
 use Rattle.sha256.specs.Sha256.{SHA256}
 use Rattle.paper.specs.Bytes.{allWithin}
-use Rattle.paper.specs.Form.{Rec, Form, _=<_, _==_, test, Fact, only, Fault, _gives_, settle}
-use Rattle.paper.specs.Records.{records, joined, kind, SESSION, PUK, POLICY, KEY, PENDING, at, block, bears, is, session, macCounter, keyLimit}
+use Rattle.paper.specs.Form.{Rec, _=<_, _==_, Fact, only, Fault, _gives_, settle}
+use Rattle.paper.specs.Records.{records, kind, SESSION, PUK, POLICY, KEY, PENDING, at, block, bears, is, session, macCounter, keyLimit}
 use Rattle.paper.specs.Sound.{sound}
 use Rattle.paper.specs.Calls.{subject, isSessionCall, oneOf, close, puk, policy, key, path, post}
 use Rattle.paper.specs.Mac.{uses}
 use Rattle.paper.specs.Closing.{hasKey, shut, sealed, closing}
 use Rattle.paper.specs.Objects.{pukFaults, makePuk, policyFaults, makePolicy, keyFaults, makeKey, pathFaults, certified, setPath}
-use Rattle.paper.specs.Posting.{Look, look, postFaults, postAs, postDelete, postUnlock}
+use Rattle.paper.specs.Posting.{Look, look, postFaults, postAs}
 use Rattle.paper.specs.Sessions.{closeFaults, closeSession}
-use Rattle.paper.specs.Act.{Out, Act, refuse, inside, close as closes, placed, fitsIn, wiped, perform, moved, advance}
-use Rattle.paper.specs.Answer.{Answer, answer, step, sessionStep, sessionAct, isOpen}
+use Rattle.paper.specs.Act.{Out, Act, refuse, inside, placed, fitsIn, wiped, perform, moved, advance}
+use Rattle.paper.specs.Answer.{answer, step, sessionStep, sessionAct, isOpen}
 use Rattle.paper.proofs.Forms.{both, Clear, contrary}
 use Rattle.laws.proofs.Choice.{holds, only-in, only-out}
 use Rattle.laws.proofs.Edits.{movedAt, moved-same, moved-mac, shutAt, shut-same, shut-mac}
 use Rattle.laws.proofs.Places.{four-kept}
 use Rattle.laws.proofs.Inserting.{insert-old}
 use Rattle.laws.proofs.Lists.{at-block}
-use Rattle.laws.proofs.Stores.{Whole, records-joined}
+use Rattle.laws.proofs.Stores.{records-joined}
 use Rattle.laws.proofs.Facts.{Facts}
 use Rattle.laws.proofs.Handles.{at-is}
-use Rattle.rule.specs.Refusals.{Taken}
 use Rattle.rule.specs.Checked.{caller, Accepted}
 use Rattle.rule.specs.Counted.{Counted}
 use Rattle.rule.proofs.Changes.{long, limit-range}

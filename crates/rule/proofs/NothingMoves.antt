@@ -4,29 +4,28 @@ use mathlib.Core.Bool.{Bool, true, false, cond}
 use mathlib.Core.List.{List, [], _∷_, map}
 use mathlib.Core.Logic.{_⊎_, inl, inr}
 use mathlib.Core.Option.{Option, none, some as just}
-use Prim.Native.Nat.{ℕ, zero, suc, _+_, _≤_, _<_}
+use Prim.Native.Nat.{ℕ, zero, suc, _≤_, _<_}
 use Prim.Native.String.{String}
 use native.Mathlib.Omega.{arith}
 use lib.ListN.{getD}
 use lib.Dec.{eqb}
 use borrow.Author.Tests.{eqb-true}
-use Rattle.paper.specs.Bytes.{four, part, enc4, allWithin}
-use Rattle.paper.specs.Form.{Rec, Form, test, Fact, only, Fault, _gives_, settle}
+use Rattle.paper.specs.Bytes.{part, allWithin}
+use Rattle.paper.specs.Form.{Rec, Fact, only}
 use Rattle.paper.specs.Records.{records, SESSION, PUK, POLICY, at, block, bears, session, zeros, isFree, insert}
-use Rattle.paper.specs.Calls.{method, subject, isSessionCall, close, puk, policy, key, path, post}
+use Rattle.paper.specs.Calls.{method, subject, close, puk, policy, key, path, post}
 use Rattle.paper.specs.Mac.{attestation, closeAttested}
 use Rattle.paper.specs.Objects.{pukFaults, pukRecord, makePuk, policyFaults, policyRecord, makePolicy, keyFaults, keyRecord, makeKey, pathFaults, setPath}
 use Rattle.paper.specs.Posting.{Look, look, postFaults, pendingRecord, postAs, postDelete, postUnlock}
 use Rattle.paper.specs.Sessions.{closeFaults, closeSession, abortFaults, abortSession}
 use Rattle.paper.specs.Act.{Out, Act, refuse, inside, close as closes, placed, fitsIn, wiped, perform}
 use Rattle.paper.specs.Answer.{answer, step, sessionStep, sessionAct}
-use Rattle.paper.proofs.Forms.{settled, contrary, cases}
-use Rattle.laws.proofs.Choice.{only-in, only-out, chosen}
+use Rattle.paper.proofs.Forms.{settled, cases}
+use Rattle.laws.proofs.Choice.{only-out, chosen}
 use Rattle.laws.proofs.Bytes.{four-of, four-most}
 use Rattle.laws.proofs.Inserting.{free-is}
 use Rattle.laws.proofs.Stores.{records-joined}
-use Rattle.rule.specs.Refusals.{Taken}
-use Rattle.rule.specs.NothingCounts.{NothingCounts, before, after}
+use Rattle.rule.specs.NothingCounts.{NothingCounts, after}
 use Rattle.rule.proofs.Changes.{long}
 use Rattle.rule.proofs.Kept.{step-kept}
 use Rattle.rule.proofs.Refusing.{status-is, store-is, session-step}

@@ -3,10 +3,9 @@ use mathlib.Core.Path.{_≡_, refl, sym, ap, subst, _∙_}
 use mathlib.Core.Bool.{Bool, true, false, not, _&&_, cond}
 use mathlib.Core.List.{List, [], _∷_, _++_, map}
 use mathlib.Core.Logic.{_⊎_, inl, inr}
-use mathlib.Core.Option.{Option, none, some as just}
-use Prim.Native.Nat.{ℕ, zero, suc, _+_, _%_, _≤_, _<_}
+use Prim.Native.Nat.{ℕ, _+_, _%_, _≤_, _<_}
 use native.Mathlib.Omega.{arith}
-use lib.Dec.{eqb, ltb}
+use lib.Dec.{eqb}
 use lib.ListN.{length}
 use borrow.Author.Tests.{lt-ltb, le-ltb, eqb-true, eq-eqb}
 use Rattle.paper.specs.Limits.{recordBytes, replyBytes}
@@ -21,7 +20,7 @@ use Rattle.paper.specs.Users.{policyOf, pukOf, tried, removed, unlocked, delete
 use Rattle.paper.specs.Sessions.{counter, createFaults, sessionRecord, counted, createSession}
 use Rattle.paper.specs.Act.{Out, plain, noAttestation, Act, refuse, inside, close, wiped, placed, fitsIn, perform}
 use Rattle.paper.specs.Answer.{Answer, answer, isOpen, Judged, judged, told, written, earlyFaults, step, sessionStep, userStep}
-use Rattle.paper.proofs.Forms.{Agree, both, cases, settled, contrary}
+use Rattle.paper.proofs.Forms.{Agree, both, settled, contrary}
 use Rattle.laws.proofs.Stores.{joined-records}
 use Rattle.rule.specs.Refusals.{Taken, Refusals, without, pinCounted, pukCounted}
 

@@ -7,7 +7,7 @@ use Prim.Native.Nat.{ℕ, _≤_, _<_}
 use lib.ListN.{length}
 use Rattle.paper.specs.Limits.{replyBytes}
 use Rattle.paper.specs.Bytes.{enc4, over}
-use Rattle.paper.specs.Form.{Form, Fact, only}
+use Rattle.paper.specs.Form.{Fact, only}
 use Rattle.paper.specs.Records.{records, joined, bears, zeros}
 use Rattle.paper.specs.Sound.{sound}
 use Rattle.paper.specs.Calls.{method, subject, isSessionCall, isUserCall, known}
@@ -15,7 +15,7 @@ use Rattle.paper.specs.Pin.{pinMissed, pukMissed}
 use Rattle.paper.specs.Posting.{target}
 use Rattle.paper.specs.Users.{policyOf, pukOf}
 use Rattle.paper.specs.Act.{noAttestation}
-use Rattle.paper.specs.Answer.{Answer, answer, isOpen}
+use Rattle.paper.specs.Answer.{answer, isOpen}
 
 -- A session is removed with all its records, and no other record is touched.
 abbrev pub without : ℕ → List ℕ → List ℕ

@@ -6,13 +6,13 @@ use mathlib.Core.Option.{none}
 use Prim.Native.Nat.{ℕ}
 use lib.Dec.{eqb}
 use borrow.Author.Tests.{ne-eqb}
-use Rattle.paper.specs.Form.{Rec, Form, _==_, _and_, test, some, exists, only}
+use Rattle.paper.specs.Form.{Rec, _==_, _and_, test, some, exists, only}
 use Rattle.paper.specs.Records.{records, kind, SESSION, PUK, POLICY, KEY, own, session, parent, at, block, bears, zeros}
 use Rattle.paper.specs.Sound.{child, childless}
 use Rattle.paper.specs.Calls.{subject, close, abortForm}
 use Rattle.paper.specs.Mac.{attestation, closeAttested}
 use Rattle.paper.specs.Closing.{closing}
-use Rattle.paper.specs.Act.{Act, refuse, inside, noAttestation, perform, wiped}
+use Rattle.paper.specs.Act.{refuse, inside, noAttestation, perform, wiped}
 use Rattle.paper.specs.Act as act
 use Rattle.paper.specs.Sessions.{closeSession, abortFaults, abortSession}
 use Rattle.records.specs.View.{Becomes}

@@ -1,15 +1,15 @@
 -- What status 0 of method 2 tells of the call: the number fits and the record has 256 bytes. And the paper's outcome by the status.
-use mathlib.Core.Path.{_≡_, refl, sym, ap, subst, _∙_}
-use mathlib.Core.Bool.{Bool, true, false, not, cond}
-use mathlib.Core.List.{List, [], _∷_, _++_, map}
-use Prim.Native.Nat.{ℕ, zero, suc, _+_, _-_, _≤_}
+use mathlib.Core.Path.{_≡_, refl, sym, subst, _∙_}
+use mathlib.Core.Bool.{Bool, true, false, cond}
+use mathlib.Core.List.{List, [], _∷_, map}
+use Prim.Native.Nat.{ℕ, zero, suc, _≤_}
 use native.Mathlib.Omega.{arith}
 use lib.ListN.{length, length-append, length-replicate}
-use Rattle.paper.specs.Bytes.{two, part, behind, stringAt}
-use Rattle.paper.specs.Form.{Rec, Form, _=<_, no, test, Fact, Fault, _gives_, settle}
+use Rattle.paper.specs.Bytes.{part}
+use Rattle.paper.specs.Form.{Rec, _=<_, no, test, Fact, Fault, _gives_}
 use Rattle.paper.specs.Records.{records, handle, nextSession, insert}
 use Rattle.paper.specs.Calls.{create, createForm, serverAt, timesAt}
-use Rattle.paper.specs.Act.{Out, plain, noAttestation}
+use Rattle.paper.specs.Act.{plain, noAttestation}
 use Rattle.paper.specs.Sessions.{counter, sessionRecord, counted, createSession}
 use Rattle.paper.proofs.Forms.{contrary, both, Clear, Agree}
 use Rattle.laws.proofs.Bytes.{length-part}

@@ -1,9 +1,9 @@
 -- What reads past the end: a byte and a number there are 0, a part and a string are empty.
-use mathlib.Core.Path.{_≡_, sym, _∙_}
+use mathlib.Core.Path.{_≡_}
 use mathlib.Core.List.{List, []}
 use Prim.Native.Nat.{ℕ, _+_, _≤_}
 use native.Mathlib.Omega.{arith}
-use lib.ListN.{length, take, drop, List·getD-eq-default, drop-of-length-le}
+use lib.ListN.{length, List·getD-eq-default, drop-of-length-le}
 use lib.Seq.{take-nil}
 use Rattle.paper.specs.Bytes.{byte, two, four, part, textAt, stringAt}
 

@@ -12,7 +12,7 @@ use lib.ListN.{length, getD, drop, length-drop}
 use lib.Seq.{drop-cons}
 use Rattle.paper.specs.Bytes.{within}
 use Rattle.paper.specs.Text.{alphanumeric, leads, utf8From, twoEqual, twoEqualFrom, threeEqual, threeEqualFrom, risingFrom, fallingFrom, stepped}
-use Rattle.text.specs.Runs.{inAlphabet, followers, toCome, isNext, isRun}
+use Rattle.text.specs.Runs.{inAlphabet, toCome, isNext, isRun}
 
 pub from : (v : List ℕ) (i : ℕ) → i < length v → drop i v ≡ getD v i 0 ∷ drop (i + 1) v
 from v i h = rw (add-one, drop-cons v i 0)

@@ -1,33 +1,33 @@
 -- Which method a step is, what a sound store grants it, and the answer put together.
 use mathlib.Core.Path.{_≡_, refl, sym, ap, _∙_}
-use mathlib.Core.Bool.{Bool, true, false, not, cond, _&&_}
-use mathlib.Core.List.{List, [], _∷_, _++_, map, append-assoc}
-use Prim.Native.Nat.{ℕ, zero, suc, _-_, _/_, _%_, _≤_, _<_}
+use mathlib.Core.Bool.{Bool, true, false}
+use mathlib.Core.List.{List, [], _∷_, map, append-assoc}
+use Prim.Native.Nat.{ℕ, _-_, _/_, _%_, _≤_, _<_}
 use native.Mathlib.Omega.{arith}
 use borrow.Author.Tests.{eqb-true, ne-eqb, leb-true, le-leb, lt-ltb, le-ltb}
-use lib.Dec.{eqb, ltb, leb}
+use lib.Dec.{eqb, leb}
 use lib.ListN.{length, set, replicate}
 use lib.Seq.{sets-eq, drop-drop}
 use borrow.Rule.Slice.PartMut.{putMid}
-use Rattle.paper.specs.Limits.{recordBytes, replyBytes}
+use Rattle.paper.specs.Limits.{recordBytes}
 use Rattle.paper.specs.Bytes.{enc4, over, within}
-use Rattle.paper.specs.Form.{Rec, test, settle, Fact}
-use Rattle.paper.specs.Records.{records, joined, block, zeros}
+use Rattle.paper.specs.Form.{Rec, test, Fact}
+use Rattle.paper.specs.Records.{records, block, zeros}
 use Rattle.paper.specs.Sound.{lengthFits, Sound, sound}
 use Rattle.paper.specs.Calls.{method, subject, isSessionCall, post}
-use Rattle.paper.specs.Act.{Out, perform, plain, noAttestation}
+use Rattle.paper.specs.Act.{Out, perform}
 use Rattle.paper.specs.Objects.{makePuk, makePolicy, makeKey, setPath}
 use Rattle.paper.specs.Posting.{look, postDelete, postUnlock}
 use Rattle.paper.specs.Sessions.{createSession, closeSession, abortSession}
 use Rattle.paper.specs.Users.{deleteKey, unlockKey, changePin, useKey}
-use Rattle.paper.specs.Answer.{sessionAct, sessionStep, userStep, step, earlyFaults, Judged, judged, told, written, Answer, answer, freshCounter, formatted}
-use Rattle.paper.proofs.Forms.{both, contrary}
+use Rattle.paper.specs.Answer.{sessionAct, sessionStep, userStep, step, earlyFaults, judged, told, written, answer, freshCounter, formatted}
+use Rattle.paper.proofs.Forms.{both}
 use Rattle.laws.proofs.Bytes.{split}
 use Rattle.records.specs.View.{Becomes}
 use Rattle.records.proofs.Views.{length-records, whole, after}
 use Rattle.ladder.specs.Rungs.{status}
 use Rattle.ladder.specs.declared.Reply.{Reply}
-use Rattle.ladder.specs.Answers.{Answers, bareReply, said}
+use Rattle.ladder.specs.Answers.{Answers, bareReply}
 use Rattle.ladder.proofs.Climbs.{settle-done, settle-not}
 use Rattle.outcomes.specs.Range.{inRange}
 use Rattle.token.specs.Said.{known, made}

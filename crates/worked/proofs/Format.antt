@@ -1,6 +1,6 @@
 -- Format, both sides of the line: 511 bytes are left as they are, with 19; 512 become a counter at 1 and a free record.
 use mathlib.Core.Path.{_≡_, refl}
-use mathlib.Core.List.{List, [], _∷_}
+use mathlib.Core.List.{[], _∷_}
 use lib.ListN.{replicate}
 use Rattle.paper.specs.Records.{joined, zeros}
 use Rattle.paper.specs.Sound.{lengthFits}

@@ -12,7 +12,7 @@ use Rattle.paper.specs.Limits.{recordBytes, replyBytes}
 use Rattle.paper.specs.Bytes.{zerosOf}
 use Rattle.paper.specs.Form.{Rec}
 use Rattle.paper.specs.Records.{joined}
-use Rattle.paper.specs.Answer.{Answer, answer}
+use Rattle.paper.specs.Answer.{answer}
 
 abbrev pub digit : ℕ → ℕ
 digit n = cond (leb n 57) (n - 48) (n - 87)

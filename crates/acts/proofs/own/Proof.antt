@@ -1,6 +1,6 @@
 -- The first such record of the store is that of the session's own (`own-at`).
-use mathlib.Core.Path.{_∙_, sym}
-use Rattle.paper.specs.Records.{records, at}
+use mathlib.Core.Path.{_∙_}
+use Rattle.paper.specs.Records.{records}
 use Rattle.acts.proofs.Moving.{own-at}
 use borrow.Author.Needs.{needs}
 use Rattle.acts.proofs.own.Statement.{statement}

@@ -1,5 +1,5 @@
 -- Four bytes, one after the other.
-use mathlib.Core.List.{List, _++_, append-assoc}
+use mathlib.Core.List.{append-assoc}
 use borrow.Author.Needs.{needs}
 use Rattle.build.proofs.four.Statement.{statement}
 use Rattle.build.proofs.four.Tie as tie

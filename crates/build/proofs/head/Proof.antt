@@ -1,6 +1,4 @@
 -- The bytes and the handles, one after the other.
-use mathlib.Core.List.{[]}
-use mathlib.Core.Path.{ap}
 use borrow.Author.Needs.{needs}
 use Rattle.build.proofs.head.Statement.{statement}
 use Rattle.build.proofs.head.Tie as tie

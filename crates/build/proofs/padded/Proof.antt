@@ -1,5 +1,5 @@
 -- The length, the bytes and the zeros, one after the other.
-use mathlib.Core.List.{List, _++_, append-assoc}
+use mathlib.Core.List.{append-assoc}
 use borrow.Author.Needs.{needs}
 use Rattle.build.proofs.padded.Statement.{statement}
 use Rattle.build.proofs.padded.Tie as tie

@@ -1,5 +1,5 @@
 -- Two bytes, one after the other.
-use mathlib.Core.List.{List, _++_, append-assoc}
+use mathlib.Core.List.{append-assoc}
 use borrow.Author.Needs.{needs}
 use Rattle.build.proofs.two.Statement.{statement}
 use Rattle.build.proofs.two.Tie as tie

@@ -1,5 +1,4 @@
 -- The digest and then one byte written over.
-use mathlib.Core.Path.{refl}
 use Rattle.paper.specs.Bytes.{over}
 use Rattle.paper.specs.Objects.{certified}
 use borrow.Author.Needs.{needs}

@@ -1,7 +1,5 @@
 -- Each deed has its own loop.
-use Rattle.paper.specs.Records.{records}
 use Rattle.plans.proofs.Filled.{fits-plan}
-use Rattle.fates.specs.Outcome.{deedFate}
 use borrow.Author.Needs.{needs}
 use Rattle.fates.proofs.plan.Statement.{statement}
 use Rattle.fates.proofs.plan.Tie as tie

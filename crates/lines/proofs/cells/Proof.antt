@@ -1,7 +1,5 @@
 -- `lines::cells` is safe and ends: a cell for each of the 14 columns, all within the counts.
-use mathlib.Core.Path.{_≡_}
 use Prim.Native.Nat.{_≤_, _-_}
-use lib.ListN.{length}
 use borrow.Author.Needs.{needs}
 use Rattle.lines.proofs.cells.Statement.{statement}
 use Rattle.lines.proofs.cells.Tie as tie

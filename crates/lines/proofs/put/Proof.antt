@@ -1,6 +1,6 @@
 -- `lines::put` is safe and ends: what is written lies in the record and in the store, whose length stays.
 use mathlib.Core.Path.{_≡_}
-use Prim.Native.Nat.{_≤_, _-_, _*_}
+use Prim.Native.Nat.{_≤_, _-_}
 use lib.ListN.{length}
 use borrow.Author.Needs.{needs}
 use Rattle.lines.proofs.put.Statement.{statement}

@@ -1,5 +1,5 @@
 -- The session, and then the rest.
-use borrow.Author.Tests.{not-false, not-true}
+use borrow.Author.Tests.{not-true}
 use mathlib.Core.Path.{_∙_, sym}
 use mathlib.Core.Bool.{and-false}
 use borrow.Author.Needs.{needs}

@@ -1,7 +1,7 @@
 -- Field after field, as the paper lists them (`laid-grown`).
 use mathlib.Core.Path.{_∙_}
 use mathlib.Core.List.{[], _∷_}
-use Rattle.paper.specs.Bytes.{stringAt, padded, zerosOf}
+use Rattle.paper.specs.Bytes.{padded, zerosOf}
 use Rattle.paper.specs.Calls.{subject, puk}
 use Rattle.paper.specs.Act.{fresh}
 use Rattle.paper.specs.Objects.{pukRecord}

@@ -1,5 +1,5 @@
 -- A reply too short (`answered-not`), or the answer written once (`answered`).
-use mathlib.Core.Path.{sym, ap, _∙_}
+use mathlib.Core.Path.{ap, _∙_}
 use Rattle.paper.specs.Bytes.{over}
 use Rattle.token.proofs.Steps.{answered-not, answered}
 use borrow.Author.Needs.{needs}

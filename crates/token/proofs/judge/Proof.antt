@@ -1,5 +1,4 @@
 -- Refused before the method (`judged-not`), or the method's own answer (`judged-done`).
-use mathlib.Core.Path.{sym, _∙_}
 use Rattle.token.proofs.Steps.{judged-not, was-sound, judged-done}
 use borrow.Author.Needs.{needs}
 use Rattle.token.proofs.judge.Statement.{statement}

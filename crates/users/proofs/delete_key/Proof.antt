@@ -1,7 +1,6 @@
 -- DeleteProtection decides which value is tried, if any.
-use mathlib.Core.Path.{refl, sym, ap, _∙_}
+use mathlib.Core.Path.{refl}
 use borrow.Author.Tests.{eq-eqb, ne-eqb}
-use Rattle.paper.specs.Records.{deleteProtection}
 use Rattle.users.specs.Doing.{deleting}
 use borrow.Author.Needs.{needs}
 use Rattle.users.proofs.delete_key.Statement.{statement}

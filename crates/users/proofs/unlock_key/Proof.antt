@@ -1,5 +1,4 @@
 -- A value that is not right is answered 1 (`not-right`), a right one earns the unlocking (`was-right`).
-use Rattle.paper.specs.Records.{records}
 use Rattle.paper.specs.Users.{unlocked}
 use borrow.Author.Tests.{not-true, not-false}
 use Rattle.outcomes.proofs.Methods.{not-long}
