@@ -9,10 +9,10 @@ use lib.ListN.{length, replicate, length-append, length-replicate, List·getD-ap
 use lib.Seq.{getD-append-add}
 use borrow.Author.Tests.{le-leb}
 use Rattle.paper.specs.Limits.{recordBytes}
-use Rattle.paper.specs.Bytes.{byte, two, part, enc2, zerosOf, padded, textAt, within, allWithin}
+use Rattle.paper.specs.Bytes.{byte, two, part, enc2, zerosOf, paddedText, textAt, within, allWithin}
 use Rattle.paper.specs.Form.{Rec}
 use Rattle.paper.specs.Records.{kind}
-use Rattle.paper.specs.Table.{Field, u8, u16, bytes, blank, text, ident, width, right, fits, isText, isBlank, printable, fieldsOf, obeysTable}
+use Rattle.paper.specs.Table.{Field, u8, u16, bytes, blank, text, ident, width, fieldFits, fits, isText, isBlank, printable, fieldsOf, obeysTable}
 use Rattle.paper.specs.Act.{flat}
 use Rattle.laws.proofs.Bytes.{list-same, byte-part, length-part, part-short, all-within}
 use Rattle.laws.proofs.Strings.{length-padded, padded-length, padded-zero, text-of}
@@ -23,7 +23,7 @@ abbrev pub Match : List Field → List (List ℕ) → Type 0
 Match [] [] = Unit {0}
 Match [] (v ∷ vs) = ⊥
 Match (f ∷ fs) [] = ⊥
-Match (f ∷ fs) (v ∷ vs) = (length v ≡ width f) × (right f 0 v ≡ true) × Match fs vs
+Match (f ∷ fs) (v ∷ vs) = (length v ≡ width f) × (fieldFits f 0 v ≡ true) × Match fs vs
 
 byte-seam : (pre v post : Rec) (j : ℕ) → j < length v → byte (length pre + j) (pre ++ (v ++ post)) ≡ byte j v
 unfolding byte
@@ -44,7 +44,7 @@ fits-built (f ∷ fs) (v ∷ vs) pre m =
     let w = m .0 in
     let a = length-append pre (v ++ flat vs) in
     let b = length-append v (flat vs) in
-    joint (right f (length pre) (pre ++ (v ++ flat vs))) (fits fs (length pre + width f) (pre ++ (v ++ flat vs)))
+    joint (fieldFits f (length pre) (pre ++ (v ++ flat vs))) (fits fs (length pre + width f) (pre ++ (v ++ flat vs)))
     (right-moved 0 (length pre) v (pre ++ (v ++ flat vs)) f (λ j l. byte-seam pre v (flat vs) j (omega arith) ∙ ap (λ (i : ℕ). byte i v) (sym (zero-add j))) (omega arith) (omega arith) (m .1))
     (ap₂ (λ (i : ℕ) (r : Rec). fits fs i r) (ap (λ (w : ℕ). length pre + w) (sym (m .0)) ∙ sym (length-append pre v)) (sym (append-assoc pre v (flat vs))) ∙ fits-built fs vs (pre ++ v) (m .2))
 
@@ -91,7 +91,7 @@ pub tabled-built : (k : ℕ) (vs : List (List ℕ)) → Match (fieldsOf k) vs �
 tabled-built k vs m e w = tabled k (flat vs) e (length-built (fieldsOf k) vs m ∙ w) (fits-built (fieldsOf k) vs [] m)
 
 -- a field is right where a right value stands
-pub right-part : (f : Field) (i : ℕ) (r : Rec) (v : List ℕ) → part i (width f) r ≡ v → i + width f ≤ length r → right f 0 v ≡ true → right f i r ≡ true
+pub right-part : (f : Field) (i : ℕ) (r : Rec) (v : List ℕ) → part i (width f) r ≡ v → i + width f ≤ length r → fieldFits f 0 v ≡ true → fieldFits f i r ≡ true
 right-part f i r v e room t =
     let l = ap length (sym e) ∙ length-part i (width f) r room in
     right-moved 0 i v r f (λ j h. sym (byte-part i (width f) j r h) ∙ ap (byte j) e ∙ ap (λ (k : ℕ). byte k v) (sym (zero-add j)))
@@ -103,14 +103,14 @@ byte-head : (n : ℕ) (v : List ℕ) → byte 0 (n ∷ v) ≡ n
 unfolding byte
 byte-head n v = refl
 
-pub right-u8 : (lo hi n : ℕ) → lo ≤ n → n ≤ hi → right (u8 lo hi) 0 (n ∷ []) ≡ true
+pub right-u8 : (lo hi n : ℕ) → lo ≤ n → n ≤ hi → fieldFits (u8 lo hi) 0 (n ∷ []) ≡ true
 right-u8 lo hi n a b = rw (byte-head n [], le-leb lo n a, le-leb n hi b)
 
 pub two-enc : (n : ℕ) → n < 65536 → two 0 (enc2 n) ≡ n
 unfolding two byte
 two-enc n h = omega arith
 
-pub right-u16 : (lo hi n : ℕ) → lo ≤ n → n ≤ hi → n < 65536 → right (u16 lo hi) 0 (enc2 n) ≡ true
+pub right-u16 : (lo hi n : ℕ) → lo ≤ n → n ≤ hi → n < 65536 → fieldFits (u16 lo hi) 0 (enc2 n) ≡ true
 right-u16 lo hi n a b h = rw (two-enc n h, le-leb lo n a, le-leb n hi b)
 
 zeros-blank : (n : ℕ) → allWithin 0 0 (replicate n 0) ≡ true
@@ -131,44 +131,44 @@ blank-zeros i n m =
     let s = part-short i n (zerosOf m) in
     (omega arith, rw (byte-part i n j (zerosOf m) (omega arith), zeros-byte m (i + j)) (omega arith)))
 
-pub right-blank : (n : ℕ) → right (blank n) 0 (zerosOf n) ≡ true
+pub right-blank : (n : ℕ) → fieldFits (blank n) 0 (zerosOf n) ≡ true
 right-blank n = blank-zeros 0 n n
 
 -- a padded string
 module _ (n lo : ℕ) (v : List ℕ) (a : lo ≤ length v) (b : length v ≤ n) (small : n < 256) where
-  whole : part 0 (suc n) (padded n v) ≡ padded n v
+  whole : part 0 (suc n) (paddedText n v) ≡ paddedText n v
   whole =
-      list-same (padded n v) (part 0 (suc n) (padded n v))
-      (length-part 0 (suc n) (padded n v) (let l = length-padded n v b in omega arith) ∙ sym (length-padded n v b))
-      (λ j l. byte-part 0 (suc n) j (padded n v) (rw (length-padded n v b) at l) ∙ ap (λ (i : ℕ). byte i (padded n v)) (zero-add j))
+      list-same (paddedText n v) (part 0 (suc n) (paddedText n v))
+      (length-part 0 (suc n) (paddedText n v) (let l = length-padded n v b in omega arith) ∙ sym (length-padded n v b))
+      (λ j l. byte-part 0 (suc n) j (paddedText n v) (rw (length-padded n v b) at l) ∙ ap (λ (i : ℕ). byte i (paddedText n v)) (zero-add j))
 
-  pub text-padded : textAt 0 (padded n v) ≡ v
-  text-padded = text-of 0 n (padded n v) v whole b small (let l = length-padded n v b in omega arith)
+  pub text-padded : textAt 0 (paddedText n v) ≡ v
+  text-padded = text-of 0 n (paddedText n v) v whole b small (let l = length-padded n v b in omega arith)
 
-  pub right-text : right (text n lo) 0 (padded n v) ≡ true
+  pub right-text : fieldFits (text n lo) 0 (paddedText n v) ≡ true
   right-text =
       rw (padded-length n v (omega arith))
-      (joint (within lo n (length v)) (isBlank (part (0 + 1 + length v) (n - length v) (padded n v))) (rw (le-leb lo (length v) a, le-leb (length v) n b)) rest)
+      (joint (within lo n (length v)) (isBlank (part (0 + 1 + length v) (n - length v) (paddedText n v))) (rw (le-leb lo (length v) a, le-leb (length v) n b)) rest)
     where
-      rest : isBlank (part (0 + 1 + length v) (n - length v) (padded n v)) ≡ true
-      rest = all-within 0 0 (part (0 + 1 + length v) (n - length v) (padded n v)) (λ j l. (omega arith, zero-here j l))
+      rest : isBlank (part (0 + 1 + length v) (n - length v) (paddedText n v)) ≡ true
+      rest = all-within 0 0 (part (0 + 1 + length v) (n - length v) (paddedText n v)) (λ j l. (omega arith, zero-here j l))
         where
-          zero-here : (j : ℕ) → j < length (part (0 + 1 + length v) (n - length v) (padded n v))
-              → byte j (part (0 + 1 + length v) (n - length v) (padded n v)) ≤ 0
+          zero-here : (j : ℕ) → j < length (part (0 + 1 + length v) (n - length v) (paddedText n v))
+              → byte j (part (0 + 1 + length v) (n - length v) (paddedText n v)) ≤ 0
           zero-here j l =
-              let w = length-part (0 + 1 + length v) (n - length v) (padded n v) (let l = length-padded n v b in omega arith) in
+              let w = length-part (0 + 1 + length v) (n - length v) (paddedText n v) (let l = length-padded n v b in omega arith) in
               let q : 0 + 1 + length v + j ≡ suc (length v + j) = omega arith in
-              rw (byte-part (0 + 1 + length v) (n - length v) j (padded n v) (omega arith), q, padded-zero n v (length v + j) (omega arith)) (omega arith)
+              rw (byte-part (0 + 1 + length v) (n - length v) j (paddedText n v) (omega arith), q, padded-zero n v (length v + j) (omega arith)) (omega arith)
 
-  pub right-ident : printable v ≡ true → right (ident n lo) 0 (padded n v) ≡ true
-  right-ident p = joint (isText n lo 0 (padded n v)) (printable (textAt 0 (padded n v))) right-text (ap printable text-padded ∙ p)
+  pub right-ident : printable v ≡ true → fieldFits (ident n lo) 0 (paddedText n v) ≡ true
+  right-ident p = joint (isText n lo 0 (paddedText n v)) (printable (textAt 0 (paddedText n v))) right-text (ap printable text-padded ∙ p)
 
 -- ---- values and fields written side by side
 
 -- a value that is as wide as its field, and right for it
 pub record Suits (f : Field) (v : List ℕ) : Type 0 where
   pub wide : length v ≡ width f
-  pub right : right f 0 v ≡ true
+  pub right : fieldFits f 0 v ≡ true
 
 infixr 20 _&_
 pub data Suited : List Field → List (List ℕ) → Type 0 where
@@ -191,8 +191,8 @@ is-bytes n v l = record { wide = l; right = refl }
 pub is-blank : (n : ℕ) → Suits (blank n) (zerosOf n)
 is-blank n = record { wide = length-replicate {A = ℕ} n 0; right = right-blank n }
 
-pub is-text : (n lo : ℕ) (v : List ℕ) → lo ≤ length v → length v ≤ n → n < 256 → Suits (text n lo) (padded n v)
+pub is-text : (n lo : ℕ) (v : List ℕ) → lo ≤ length v → length v ≤ n → n < 256 → Suits (text n lo) (paddedText n v)
 is-text n lo v a b h = record { wide = length-padded n v b; right = right-text n lo v a b h }
 
-pub is-ident : (n lo : ℕ) (v : List ℕ) → lo ≤ length v → length v ≤ n → n < 256 → printable v ≡ true → Suits (ident n lo) (padded n v)
+pub is-ident : (n lo : ℕ) (v : List ℕ) → lo ≤ length v → length v ≤ n → n < 256 → printable v ≡ true → Suits (ident n lo) (paddedText n v)
 is-ident n lo v a b h p = record { wide = length-padded n v b; right = right-ident n lo v a b h p }

@@ -7,10 +7,10 @@ use Prim.Native.Nat.{ℕ, _+_, _%_, _≤_, _<_}
 use native.Mathlib.Omega.{arith}
 use lib.ListN.{length}
 use lib.Dec.{lit≤, lit<}
-use Rattle.paper.specs.Bytes.{byte, part, enc1, enc2, enc4, zerosOf, padded, over}
-use Rattle.paper.specs.Limits.{longestPin}
+use Rattle.paper.specs.Bytes.{byte, part, enc1, enc2, enc4, zerosOf, paddedText, over}
+use Rattle.paper.specs.Limits.{longestPin, pinWidth}
 use Rattle.paper.specs.Form.{Rec}
-use Rattle.paper.specs.Records.{parent, isStale, nextObject, macCounter, nextSession, pathSet, digest, state, sessionKey, CLOSED}
+use Rattle.paper.specs.Records.{parent, isStale, nextObject, macCounter, nextSession, pathSet, certificateDigest, state, sessionKey, CLOSED}
 use Rattle.paper.specs.Pin.{clear, addOne}
 use Rattle.paper.specs.Closing.{stale, shut}
 use Rattle.paper.specs.Act.{moved}
@@ -106,7 +106,7 @@ module _ (d : List ℕ) (long : length d ≡ 32) (r : Rec) where
   unfolding certified
   certified-path h = byte-over 1 1 (over 179 d r) (rw (length-over 179 d r) (omega arith))
 
-  pub certified-digest : 211 ≤ length r → digest (certified d r) ≡ d
+  pub certified-digest : 211 ≤ length r → certificateDigest (certified d r) ≡ d
   unfolding certified
   certified-digest h =
       part-over-other 1 179 32 (1 ∷ []) (over 179 d r) (inl (lit≤ tt))
@@ -156,11 +156,11 @@ module _ (v : List ℕ) (short : length v ≤ longestPin) (r : Rec) where
   pub pin-same : Same (from 49 17) r (newPin v r)
   unfolding newPin
   pin-same =
-      subst (λ (n : ℕ). Same (from 49 n) r (over 49 (padded longestPin v) r)) (length-padded longestPin v short)
-      (same-over 49 (padded longestPin v) r)
+      subst (λ (n : ℕ). Same (from 49 n) r (over 49 (paddedText longestPin v) r)) (length-padded longestPin v short)
+      (same-over 49 (paddedText longestPin v) r)
 
-  pub pin-is : 66 ≤ length r → part 49 17 (newPin v r) ≡ padded longestPin v
+  pub pin-is : 66 ≤ length r → part 49 pinWidth (newPin v r) ≡ paddedText longestPin v
   unfolding newPin
   pin-is h =
-      ap (λ (n : ℕ). part 49 n (over 49 (padded longestPin v) r)) (sym (length-padded longestPin v short)) ∙ part-over-same 49 (padded longestPin v) r
+      ap (λ (n : ℕ). part 49 n (over 49 (paddedText longestPin v) r)) (sym (length-padded longestPin v short)) ∙ part-over-same 49 (paddedText longestPin v) r
       (rw (length-padded longestPin v short) h)

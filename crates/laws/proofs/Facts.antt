@@ -4,6 +4,7 @@ use mathlib.Core.Bool.{true}
 use mathlib.Core.List.{List, [], _∷_, List·Memᴰ}
 use mathlib.Core.Logic.{inl, inr}
 use Rattle.hmac.specs.Same.{same}
+use Rattle.paper.specs.Limits.{pinWidth}
 use Rattle.paper.specs.Bytes.{part}
 use Rattle.paper.specs.Form.{Rec, test, Fact, Pairs}
 use Rattle.paper.specs.Records.{kind, PUK, POLICY, KEY, own, session, grouping}
@@ -124,7 +125,7 @@ of-used rs x y U c e (inr w) = w .1 (U .policy c e (w .0))
 
 -- keys under a shared policy
 abbrev pub Shares : Rec → Rec → Rec → Type 0
-Shares p x y = kind p ≡ POLICY → grouping p ≡ 1 → Fact (governs p x) → Fact (governs p y) → same (part 49 17 x) (part 49 17 y) ≡ true
+Shares p x y = kind p ≡ POLICY → grouping p ≡ 1 → Fact (governs p x) → Fact (governs p y) → same (part 49 pinWidth x) (part 49 pinWidth y) ≡ true
 
 -- ---- together
 

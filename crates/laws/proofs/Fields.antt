@@ -12,7 +12,7 @@ use Rattle.paper.specs.Limits.{recordBytes}
 use Rattle.paper.specs.Bytes.{byte, two, four, part, textAt, within}
 use Rattle.paper.specs.Form.{Rec}
 use Rattle.paper.specs.Records.{kind}
-use Rattle.paper.specs.Table.{Field, u8, u16, u32, bytes, blank, text, ident, width, right, fits, isText, isBlank, printable, fieldsOf, obeysTable}
+use Rattle.paper.specs.Table.{Field, u8, u16, u32, bytes, blank, text, ident, width, fieldFits, fits, isText, isBlank, printable, fieldsOf, obeysTable}
 use Rattle.laws.proofs.Bytes.{split, list-same, byte-part, length-part}
 use Rattle.laws.proofs.Places.{Same, hit, missed}
 
@@ -54,7 +54,7 @@ module _ (i k : ℕ) (x y : Rec) where
         part-moved (suc n) 1 (byte i x) m (omega arith) a b,
       )
 
-  pub right-moved : (f : Field) → Moved (width f) → i + width f ≤ length x → k + width f ≤ length y → right f i x ≡ true → right f k y ≡ true
+  pub right-moved : (f : Field) → Moved (width f) → i + width f ≤ length x → k + width f ≤ length y → fieldFits f i x ≡ true → fieldFits f k y ≡ true
   right-moved (u8 lo hi) m a b t = rw (byte-moved 1 (omega arith) m) t
   right-moved (u16 lo hi) m a b t = rw two-moved t
     where
@@ -82,33 +82,33 @@ total (f ∷ fs) = width f + total fs
 -- what is left to test after an edit
 abbrev pub retest : (ℕ → Bool) → List Field → ℕ → Rec → Bool
 retest touched [] i r = true
-retest touched (f ∷ fs) i r = cond (hit touched i (width f)) (right f i r) true && retest touched fs (i + width f) r
+retest touched (f ∷ fs) i r = cond (hit touched i (width f)) (fieldFits f i r) true && retest touched fs (i + width f) r
 
 pub fits-kept : (touched : ℕ → Bool) (x x′ : Rec) → Same touched x x′ → (fs : List Field) (i : ℕ) → i + total fs ≤ length x
     → fits fs i x ≡ true → retest touched fs i x′ ≡ true → fits fs i x′ ≡ true
 fits-kept touched x x′ same [] i l h t = refl
 fits-kept touched x x′ same (f ∷ fs) i l h t =
-    let w = split (right f i x) (fits fs (i + width f) x) h in
+    let w = split (fieldFits f i x) (fits fs (i + width f) x) h in
     go (hit touched i (width f)) refl t (w .0) (fits-kept touched x x′ same fs (i + width f) (omega arith) (w .1))
   where
-    go : (b : Bool) → hit touched i (width f) ≡ b → (cond b (right f i x′) true && retest touched fs (i + width f) x′) ≡ true → right f i x ≡ true
-        → (retest touched fs (i + width f) x′ ≡ true → fits fs (i + width f) x′ ≡ true) → (right f i x′ && fits fs (i + width f) x′) ≡ true
-    go true q e p k = let w = split (right f i x′) (retest touched fs (i + width f) x′) e in joint (right f i x′) (fits fs (i + width f) x′) (w .0) (k (w .1))
+    go : (b : Bool) → hit touched i (width f) ≡ b → (cond b (fieldFits f i x′) true && retest touched fs (i + width f) x′) ≡ true → fieldFits f i x ≡ true
+        → (retest touched fs (i + width f) x′ ≡ true → fits fs (i + width f) x′ ≡ true) → (fieldFits f i x′ && fits fs (i + width f) x′) ≡ true
+    go true q e p k = let w = split (fieldFits f i x′) (retest touched fs (i + width f) x′) e in joint (fieldFits f i x′) (fits fs (i + width f) x′) (w .0) (k (w .1))
     go false q e p k =
-        joint (right f i x′) (fits fs (i + width f) x′)
+        joint (fieldFits f i x′) (fits fs (i + width f) x′)
         (right-moved i i x x′ f (λ j a. same .at (i + j) (missed touched i (width f) q (i + j) (omega arith) (omega arith))) (omega arith) (let s = same .long in omega arith) p)
         (k e)
 
 -- the n-th field's own test
 abbrev pub field : ℕ → List Field → ℕ → Rec → Bool
 field n [] i r = true
-field zero (f ∷ fs) i r = right f i r
+field zero (f ∷ fs) i r = fieldFits f i r
 field (suc n) (f ∷ fs) i r = field n fs (i + width f) r
 
 pub fits-field : (n : ℕ) (fs : List Field) (i : ℕ) (r : Rec) → fits fs i r ≡ true → field n fs i r ≡ true
 fits-field n [] i r h = refl
-fits-field zero (f ∷ fs) i r h = split (right f i r) (fits fs (i + width f) r) h .0
-fits-field (suc n) (f ∷ fs) i r h = fits-field n fs (i + width f) r (split (right f i r) (fits fs (i + width f) r) h .1)
+fits-field zero (f ∷ fs) i r h = split (fieldFits f i r) (fits fs (i + width f) r) h .0
+fits-field (suc n) (f ∷ fs) i r h = fits-field n fs (i + width f) r (split (fieldFits f i r) (fits fs (i + width f) r) h .1)
 
 -- ---- records that obey the table
 

@@ -9,24 +9,24 @@ use lib.ListN.{length, getD, replicate, length-append, length-replicate, List·g
 use lib.Seq.{getD-append-add}
 use lib.Dec.{leb}
 use borrow.Author.Tests.{leb-true}
-use Rattle.paper.specs.Bytes.{byte, part, padded, zerosOf, textAt, within}
+use Rattle.paper.specs.Bytes.{byte, part, paddedText, zerosOf, textAt, within}
 use Rattle.paper.specs.Form.{Rec, _=<_}
 use Rattle.paper.specs.Table.{isText, isBlank}
 use Rattle.paper.proofs.Forms.{cases}
 use Rattle.laws.proofs.Bytes.{split, list-same, byte-part, length-part, all-at}
 
-pub length-padded : (n : ℕ) (v : List ℕ) → length v ≤ n → length (padded n v) ≡ suc n
+pub length-padded : (n : ℕ) (v : List ℕ) → length v ≤ n → length (paddedText n v) ≡ suc n
 length-padded n v h =
     let a = length-append v (zerosOf (n - length v)) in
     let b = length-replicate {A = ℕ} (n - length v) 0 in
     omega arith
 
 -- its bytes: the length, the string, zeros
-pub padded-length : (n : ℕ) (v : List ℕ) → length v < 256 → byte 0 (padded n v) ≡ length v
+pub padded-length : (n : ℕ) (v : List ℕ) → length v < 256 → byte 0 (paddedText n v) ≡ length v
 unfolding byte
 padded-length n v h = omega arith
 
-pub padded-byte : (n : ℕ) (v : List ℕ) (j : ℕ) → j < length v → byte (suc j) (padded n v) ≡ byte j v
+pub padded-byte : (n : ℕ) (v : List ℕ) (j : ℕ) → j < length v → byte (suc j) (paddedText n v) ≡ byte j v
 unfolding byte
 padded-byte n v j h = List·getD-append v (zerosOf (n - length v)) 0 j h
 
@@ -35,15 +35,15 @@ zero-at zero i = refl
 zero-at (suc m) zero = refl
 zero-at (suc m) (suc i) = zero-at m i
 
-pub padded-zero : (n : ℕ) (v : List ℕ) (j : ℕ) → length v ≤ j → byte (suc j) (padded n v) ≡ 0
+pub padded-zero : (n : ℕ) (v : List ℕ) (j : ℕ) → length v ≤ j → byte (suc j) (paddedText n v) ≡ 0
 unfolding byte
 padded-zero n v j h =
     let e : length v + (j - length v) ≡ j = omega arith in
     rw (← e) (getD-append-add v (zerosOf (n - length v)) (j - length v) 0 ∙ zero-at (n - length v) (j - length v))
 
 -- where a padded string stands, the string is read back
-module _ (i n : ℕ) (r : Rec) (v : List ℕ) (e : part i (suc n) r ≡ padded n v) (h : length v ≤ n) (small : n < 256) where
-  at : (j : ℕ) → j < suc n → byte (i + j) r ≡ byte j (padded n v)
+module _ (i n : ℕ) (r : Rec) (v : List ℕ) (e : part i (suc n) r ≡ paddedText n v) (h : length v ≤ n) (small : n < 256) where
+  at : (j : ℕ) → j < suc n → byte (i + j) r ≡ byte j (paddedText n v)
   at j l = sym (byte-part i (suc n) j r l) ∙ ap (byte j) e
 
   pub text-length : byte i r ≡ length v
@@ -59,10 +59,10 @@ module _ (i n : ℕ) (r : Rec) (v : List ℕ) (e : part i (suc n) r ≡ padded n
       next j l = let q : i + 1 + j ≡ i + suc j = omega arith in ap (λ (k : ℕ). byte k r) q ∙ at (suc j) (omega arith) ∙ padded-byte n v j l
 
 -- and where a string has its form, its field is the padded string
-pub padded-of : (n lo i : ℕ) (r : Rec) → isText n lo i r ≡ true → i + suc n ≤ length r → n < 256 → part i (suc n) r ≡ padded n (textAt i r)
+pub padded-of : (n lo i : ℕ) (r : Rec) → isText n lo i r ≡ true → i + suc n ≤ length r → n < 256 → part i (suc n) r ≡ paddedText n (textAt i r)
 unfolding textAt
 padded-of n lo i r t room small =
-    list-same (padded n v) (part i (suc n) r) (length-part i (suc n) r room ∙ sym (length-padded n v (rw long most)))
+    list-same (paddedText n v) (part i (suc n) r) (length-part i (suc n) r room ∙ sym (length-padded n v (rw long most)))
     (λ j l. byte-part i (suc n) j r (rw (length-padded n v (rw long most)) at l) ∙ each j (rw (length-padded n v (rw long most)) at l))
   where
     v : List ℕ
@@ -86,7 +86,7 @@ padded-of n lo i r t room small =
         let p = byte-part (i + 1 + byte i r) (n - byte i r) (j - byte i r) r w in
         rw (← q) (omega arith)
 
-    each : (j : ℕ) → j < suc n → byte (i + j) r ≡ byte j (padded n v)
+    each : (j : ℕ) → j < suc n → byte (i + j) r ≡ byte j (paddedText n v)
     each zero l = rw (add-zero i) (sym (padded-length n v (let a = long in let m = most in omega arith) ∙ long))
     each (suc j) l = cases (suc j =< byte i r)
         (λ a. let q : i + suc j ≡ i + 1 + j = omega arith in rw q (sym (padded-byte n v j (let b = long in omega arith) ∙ byte-part (i + 1) (byte i r) j r a)))

@@ -7,10 +7,10 @@
 // chip bytes, the status, the reply, the records that change. A number has 2 bytes, the store's length 4, kind and status 1. A string is
 // its length and its bytes. Records are their number, then each as its place in the store and a string; zeros at its end are left out.
 use libc::STDOUT_FILENO;
-use slices::byte_at;
-use slices::four_at;
-use slices::string_at;
-use slices::two_at;
+use store_records::byte_at;
+use store_records::four_at;
+use store_records::string_at;
+use store_records::two_at;
 ghost use mathlib.Core.Path.{_≡_};
 ghost use Prim.Native.Nat.{_≤_};
 ghost use lib.ListN.{length};

@@ -7,6 +7,7 @@ use Prim.Native.String.{String}
 use lib.Dec.{eqb}
 use Rattle.paper.specs.Form.{Rec, Fault, _gives_}
 use Rattle.paper.specs.Numbers.{earlyOrder, lateOrder}
+use Rattle.paper.specs.Records.{SessionValue}
 use Rattle.paper.specs.Calls.{Create, Close, Puk, Policy, Key, Path, Post}
 use Rattle.paper.specs.Objects.{pukFaults, policyFaults, keyFaults, pathFaults}
 use Rattle.paper.specs.Posting.{Look, postFaults}
@@ -27,29 +28,29 @@ ordered (o ∷ os) (n ∷ ns) = cond (eqb n o) (ordered (o ∷ os) ns) (ordered 
 pub early-ordered : (s c : List ℕ) → ordered earlyOrder (statuses (earlyFaults s c)) ≡ true
 early-ordered s c = refl
 
-module _ (c chip : List ℕ) (x y z : Rec) (rs : List Rec) where
+module _ (c chip : List ℕ) (x y z : Rec) (ses : SessionValue) (rs : List Rec) where
   pub create-ordered : (q : Create) → ordered lateOrder (statuses (createFaults c chip q rs)) ≡ true
   create-ordered q = refl
 
-  pub close-ordered : (q : Close) → ordered lateOrder (statuses (closeFaults c chip q x rs)) ≡ true
+  pub close-ordered : (q : Close) → ordered lateOrder (statuses (closeFaults c chip q ses rs)) ≡ true
   close-ordered q = refl
 
   pub abort-ordered : ordered lateOrder (statuses (abortFaults c chip)) ≡ true
   abort-ordered = refl
 
-  pub puk-ordered : (q : Puk) → ordered lateOrder (statuses (pukFaults c chip q x rs)) ≡ true
-  puk-ordered q = refl
+  pub puk-ordered : (q : Puk) (v : List ℕ) → ordered lateOrder (statuses (pukFaults c chip q v ses rs)) ≡ true
+  puk-ordered q v = refl
 
-  pub policy-ordered : (q : Policy) → ordered lateOrder (statuses (policyFaults c chip q x y rs)) ≡ true
+  pub policy-ordered : (q : Policy) → ordered lateOrder (statuses (policyFaults c chip q x ses rs)) ≡ true
   policy-ordered q = refl
 
-  pub key-ordered : (q : Key) → ordered lateOrder (statuses (keyFaults c chip q x y rs)) ≡ true
-  key-ordered q = refl
+  pub key-ordered : (q : Key) (v : List ℕ) → ordered lateOrder (statuses (keyFaults c chip q v x ses rs)) ≡ true
+  key-ordered q v = refl
 
-  pub path-ordered : (q : Path) → ordered lateOrder (statuses (pathFaults c chip q x y)) ≡ true
+  pub path-ordered : (q : Path) → ordered lateOrder (statuses (pathFaults c chip q x ses)) ≡ true
   path-ordered q = refl
 
-  pub post-ordered : (op : ℕ) (name : String) (q : Post) (l : Look) → ordered lateOrder (statuses (postFaults op name c chip q x rs l)) ≡ true
+  pub post-ordered : (op : ℕ) (name : String) (q : Post) (l : Look) → ordered lateOrder (statuses (postFaults op name c chip q ses rs l)) ≡ true
   post-ordered op name q l = refl
 
   pub delete-ordered : ordered lateOrder (statuses (deleteFaults c chip x rs)) ≡ true

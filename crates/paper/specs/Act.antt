@@ -6,8 +6,9 @@ use mathlib.Core.Option.{Option, none, some as just}
 use Prim.Native.Nat.{ℕ, _+_}
 use Rattle.paper.specs.Limits.{macBytes, mostObjects}
 use Rattle.paper.specs.Bytes.{enc2, zerosOf, over}
-use Rattle.paper.specs.Form.{Rec, Form, _=<_, no, _and_, test, only}
-use Rattle.paper.specs.Records.{SESSION, is, bears, nextObject, macCounter, keyLimit, zeros, room, insert}
+use Rattle.paper.specs.Form.{Rec, Form, _=<_, no, test, only}
+use Rattle.paper.specs.Records.{SESSION, is, at, bears, nextObject, macCounter, SessionValue, byValue, zeros, room, insert}
+use Rattle.paper.specs.Calls.{subject}
 use Rattle.paper.specs.Closing.{closing}
 
 -- What the caller sees, and the records afterwards.
@@ -60,15 +61,19 @@ unfoldable pub advance : ℕ → ℕ → ℕ → Rec → Rec
 advance s objects used = only (is SESSION s s) (moved objects used)
 
 -- Refusals that methods share: the MAC counter would pass SessionKeyLimit; object numbers are used up.
-abbrev pub passesLimit : ℕ → Rec → Form
-passesLimit used ses = no (macCounter ses + used =< keyLimit ses)
+abbrev pub passesLimit : ℕ → SessionValue → Form
+passesLimit used x = no (x .counter + used =< x .limit)
 
-abbrev pub objectsUsedUp : Rec → Form
-objectsUsedUp ses = no (nextObject ses =< mostObjects)
+abbrev pub objectsUsedUp : SessionValue → Form
+objectsUsedUp x = no (x .next =< mostObjects)
 
 -- The next object's handle.
-abbrev pub fresh : ℕ → Rec → ℕ
-fresh s ses = s + nextObject ses
+abbrev pub fresh : ℕ → SessionValue → ℕ
+fresh s x = s + x .next
+
+-- The session that a call names, among its own records.
+abbrev pub itself : List ℕ → List Rec → SessionValue
+itself c blk = byValue (at SESSION (subject c) (subject c) blk)
 
 -- A new record is its fields' bytes one after another.
 abbrev pub flat : List (List ℕ) → Rec

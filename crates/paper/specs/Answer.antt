@@ -4,12 +4,12 @@ use mathlib.Core.List.{List, [], _∷_, _++_}
 use Prim.Native.Nat.{ℕ, _-_, _/_}
 use lib.ListN.{length, replicate}
 use lib.Dec.{eqb, ltb}
-use Rattle.paper.specs.Limits.{recordBytes, replyBytes}
+use Rattle.paper.specs.Limits.{recordBytes, bytesFrom, replyBytes}
 use Rattle.paper.specs.Bytes.{enc4, over, zerosOf}
 use Rattle.paper.specs.Form.{Rec, Form, _==_, say, no, _and_, test, Fault, _gives_, settle}
 use Rattle.paper.specs.Records.{records, joined, SESSION, COUNTER, OPEN, at, state, block, zeros}
 use Rattle.paper.specs.Sound.{lengthFits, sound}
-use Rattle.paper.specs.Calls.{method, subject, isSessionCall, known, post}
+use Rattle.paper.specs.Calls.{method, subject, isSessionCall, known, postIn}
 use Rattle.paper.specs.Act.{Out, noAttestation, Act, perform}
 use Rattle.paper.specs.Objects.{makePuk, makePolicy, makeKey, setPath}
 use Rattle.paper.specs.Posting.{Look, look, postDelete, postUnlock}
@@ -32,7 +32,7 @@ sessionAct c chip blk l =
 unfoldable pub sessionStep : List ℕ → List ℕ → List Rec → Out
 sessionStep c chip rs =
     let s = subject c in
-    perform s (sessionAct c chip (block s rs) (look (post c chip .key) rs)) rs
+    perform s (sessionAct c chip (block s rs) (look (postIn c chip .key) rs)) rs
 
 unfoldable pub userStep : List ℕ → List ℕ → List Rec → Out
 userStep c chip rs =
@@ -90,7 +90,7 @@ answer s c chip reply =
 
 -- Format: the counter at 1 in the first place and all else free, or 19.
 unfoldable pub freshCounter : Rec
-freshCounter = (COUNTER ∷ zerosOf 3) ++ enc4 1 ++ zerosOf 248
+freshCounter = (COUNTER ∷ zerosOf 3) ++ enc4 1 ++ zerosOf (bytesFrom 8)
 
 pub record Formatted : Type 0 where
   pub status : ℕ

@@ -41,8 +41,8 @@ abbrev pub zerosOf : ℕ → List ℕ
 zerosOf n = replicate n 0
 
 -- A string of a record: its length in one byte, its bytes, zeros up to the longest.
-abbrev pub padded : ℕ → List ℕ → List ℕ
-padded longest v = length v % 256 ∷ (v ++ zerosOf (longest - length v))
+abbrev pub paddedText : ℕ → List ℕ → List ℕ
+paddedText longest v = length v % 256 ∷ (v ++ zerosOf (longest - length v))
 
 -- A string of a call, or of MAC data: its length in two bytes, then its bytes.
 abbrev pub string : List ℕ → List ℕ

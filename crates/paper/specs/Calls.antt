@@ -81,8 +81,8 @@ pub record Create : Type 0 where
   pub key : List ℕ
   pub client : List ℕ
 
-abbrev pub create : List ℕ → List ℕ → Create
-create c chip =
+abbrev pub createIn : List ℕ → List ℕ → Create
+createIn c chip =
     record {
       algorithm = stringAt 1 c;
       privacy = byte (privacyAt c) c;
@@ -106,8 +106,8 @@ pub record Close : Type 0 where
   pub nonce : List ℕ
   pub mac : List ℕ
 
-abbrev pub close : List ℕ → Close
-close c = record { nonce = stringAt 5 c; mac = part (behind 5 c) macBytes c }
+abbrev pub closeIn : List ℕ → Close
+closeIn c = record { nonce = stringAt 5 c; mac = part (behind 5 c) macBytes c }
 
 abbrev pub closeForm : List ℕ → List ℕ → Form
 closeForm c chip = lengthAt 1 longestNonce 5 c and behind 5 c + macBytes == length c and noChip chip
@@ -132,8 +132,8 @@ pub record Puk : Type 0 where
   -- chip: the opened value
   pub value : List ℕ
 
-abbrev pub puk : List ℕ → List ℕ → Puk
-puk c chip =
+abbrev pub pukIn : List ℕ → List ℕ → Puk
+pukIn c chip =
     record {
       id = stringAt 5 c;
       encrypted = stringAt (behindId c) c;
@@ -158,13 +158,13 @@ pub record Policy : Type 0 where
   pub retry : ℕ
   pub grouping : ℕ
   pub patterns : ℕ
-  pub shortest : ℕ
-  pub longest : ℕ
+  pub minLength : ℕ
+  pub maxLength : ℕ
   pub input : ℕ
   pub mac : List ℕ
 
-abbrev pub policy : List ℕ → Policy
-policy c =
+abbrev pub policyIn : List ℕ → Policy
+policyIn c =
     record {
       id = stringAt 5 c;
       puk = four (behindId c) c;
@@ -174,8 +174,8 @@ policy c =
       retry = byte (behindId c + 7) c;
       grouping = byte (behindId c + 8) c;
       patterns = byte (behindId c + 9) c;
-      shortest = byte (behindId c + 10) c;
-      longest = byte (behindId c + 11) c;
+      minLength = byte (behindId c + 10) c;
+      maxLength = byte (behindId c + 11) c;
       input = byte (behindId c + 12) c;
       mac = part (behindId c + 13) macBytes c;
     }
@@ -227,8 +227,8 @@ pub record Key : Type 0 where
   pub public : List ℕ
   pub opened : List ℕ
 
-abbrev pub key : List ℕ → List ℕ → Key
-key c chip =
+abbrev pub keyIn : List ℕ → List ℕ → Key
+keyIn c chip =
     record {
       id = stringAt 5 c;
       entryAlgorithm = stringAt (behindId c) c;
@@ -281,8 +281,8 @@ pub record Path : Type 0 where
   pub first : List ℕ
   pub mac : List ℕ
 
-abbrev pub path : List ℕ → Path
-path c =
+abbrev pub pathIn : List ℕ → Path
+pathIn c =
     record {
       key = four 5 c;
       certificates = strings (byte 9 c) 10 c;
@@ -302,8 +302,8 @@ pub record Post : Type 0 where
   -- chip: 1 if the signature verified
   pub verified : ℕ
 
-abbrev pub post : List ℕ → List ℕ → Post
-post c chip =
+abbrev pub postIn : List ℕ → List ℕ → Post
+postIn c chip =
     record {
       key = four 5 c;
       authorization = stringAt 9 c;

@@ -9,13 +9,14 @@ use Rattle.paper.specs.Bytes.{enc2, zerosOf, over}
 use Rattle.paper.specs.Form.{Rec, Form, _==_, _=<_, say, no, _and_, _or_, each, some, test, only, seek}
 use Rattle.paper.specs.Records.{kind, SESSION, PUK, POLICY, KEY, PENDING, CLOSED, own, session, parent, is, bears, state, macCounter, operation, isStale, zeros}
 use Rattle.paper.specs.Pin.{clear}
+use Rattle.paper.specs.Mac.{uses}
 
 -- A set of keys, by handle.
 abbrev pub Keys : Type 0
 Keys = ℕ → Bool
 
-abbrev pub none : Keys
-none k = false
+abbrev pub noKeys : Keys
+noKeys k = false
 
 abbrev pub one : ℕ → Keys
 one h k = eqb k h
@@ -75,7 +76,7 @@ holds s op rs k = test (some rs (λ q. held s k q and operation q == op))
 
 -- The session's own records at its close: pendings are freed; the SessionKey is zeroed and the session closed, or freed if it has no key.
 unfoldable pub shut : Rec → Rec
-shut r = over 1 (CLOSED ∷ []) (over 82 (zerosOf keyBytes) (over 114 (enc2 (macCounter r + 2)) r))
+shut r = over 1 (CLOSED ∷ []) (over 82 (zerosOf keyBytes) (over 114 (enc2 (macCounter r + uses 3)) r))
 
 abbrev pub hasKey : ℕ → List Rec → Form
 hasKey s rs = some rs (λ x. kind x == KEY and session x == s)
@@ -100,7 +101,7 @@ abbrev pub freed : Rec → List Rec → List Rec
 freed q rs = map (only (is PENDING (own q) (session q)) (λ r. zeros)) rs
 
 abbrev pub done : ℕ → ℕ → List Rec → List Rec
-done op k rs = map (cond (eqb op 50) (effect (one k) none rs) (effect none (one k) rs)) rs
+done op k rs = map (cond (eqb op 50) (effect (one k) noKeys rs) (effect noKeys (one k) rs)) rs
 
 abbrev pub carried : Rec → List Rec → List Rec
 carried q rs = done (operation q) (parent q) (freed q rs)

@@ -1,5 +1,5 @@
 -- The limits of document 01, each said once. Later files cite them by name.
-use Prim.Native.Nat.{ℕ}
+use Prim.Native.Nat.{ℕ, suc, _+_, _-_}
 
 -- the store
 abbrev pub recordBytes : ℕ
@@ -10,6 +10,10 @@ fewestRecords = 2
 
 abbrev pub mostRecords : ℕ
 mostRecords = 256
+
+-- how many bytes a record has from byte k on
+abbrev pub bytesFrom : ℕ → ℕ
+bytesFrom k = recordBytes - k
 
 -- handles: a session's number is below 65,536, an object's at most 999
 abbrev pub handleStep : ℕ
@@ -25,8 +29,20 @@ mostObjects = 999
 abbrev pub longestId : ℕ
 longestId = 32
 
+-- an ID in a record: its length and its bytes
+abbrev pub idWidth : ℕ
+idWidth = suc longestId
+
 abbrev pub longestPin : ℕ
 longestPin = 16
+
+-- a PIN or PUK in a record: its length and its bytes
+abbrev pub pinWidth : ℕ
+pinWidth = suc longestPin
+
+-- the byte behind it: it stands at 49
+abbrev pub pinEnd : ℕ
+pinEnd = 49 + pinWidth
 
 abbrev pub longestPublicKey : ℕ
 longestPublicKey = 96

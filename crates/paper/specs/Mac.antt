@@ -8,7 +8,7 @@ use Rattle.hmac.specs.Hmac.{HMAC}
 use Rattle.hmac.specs.Same.{same}
 use Rattle.paper.specs.Bytes.{enc2, string, ascii}
 use Rattle.paper.specs.Form.{Rec}
-use Rattle.paper.specs.Records.{sessionKey, macCounter, clientId, id, publicKey, userDefined, PUK}
+use Rattle.paper.specs.Records.{SessionValue, id, publicKey, userDefined}
 use Rattle.paper.specs.Calls.{Close, Puk, Policy, Key, Path, Post}
 
 -- HMAC-SHA256 with key SessionKey, the name as plain bytes, and the counter joined.
@@ -16,15 +16,17 @@ unfoldable pub macUnder : List ℕ → List ℕ → ℕ → List ℕ → List �
 macUnder secret name counter text = HMAC (secret ++ name ++ enc2 counter) text
 
 -- The MAC of a call is made at the session's counter; an attestation, the second use of a call that makes one, at the next.
-abbrev pub mac : Rec → String → List ℕ → List ℕ
-mac ses name text = macUnder (sessionKey ses) (ascii name) (macCounter ses) text
+abbrev pub mac : SessionValue → String → List ℕ → List ℕ
+mac x name text = macUnder (x .key) (ascii name) (x .counter) text
 
-abbrev pub attestation : Rec → List ℕ → List ℕ
-attestation ses text = macUnder (sessionKey ses) (ascii "Device Attestation") (macCounter ses + 1) text
+abbrev pub attestation : SessionValue → List ℕ → List ℕ
+attestation x text = macUnder (x .key) (ascii "Device Attestation") (x .counter + 1) text
 
--- How often a call uses the counter.
+-- How often a call uses the counter: 10 and 3 twice, the other calls with a MAC once, calls without a MAC never.
 abbrev pub uses : ℕ → ℕ
-uses method = cond (eqb method 3 || eqb method 10) 2 1
+uses m =
+    cond (eqb m 3 || eqb m 10) 2
+    (cond (eqb m 8 || (eqb m 9 || (eqb m 12 || (eqb m 50 || eqb m 51)))) 1 0)
 
 -- A policy handle becomes the policy's ID, or `#N/A` if 0.
 abbrev pub notApplicable : List ℕ
@@ -34,8 +36,8 @@ abbrev pub idOr : ℕ → Rec → List ℕ
 idOr handle policy = cond (eqb handle 0) notApplicable (id policy)
 
 -- 3: ClientSessionID and Nonce
-abbrev pub closeData : Rec → Close → List ℕ
-closeData ses q = string (clientId ses) ++ string (q .nonce)
+abbrev pub closeData : SessionValue → Close → List ℕ
+closeData x q = string (x .client) ++ string (q .nonce)
 
 -- 8: the fields from ID up to the MAC
 abbrev pub pukData : Puk → List ℕ
@@ -45,7 +47,7 @@ pukData q = string (q .id) ++ string (q .encrypted) ++ (q .format ∷ q .retry �
 abbrev pub policyData : Policy → Rec → List ℕ
 policyData q puk =
     string (q .id) ++ string (idOr (q .puk) puk)
-    ++ (q .defined ∷ q .modifiable ∷ q .format ∷ q .retry ∷ q .grouping ∷ q .patterns ∷ q .shortest ∷ q .longest ∷ q .input ∷ [])
+    ++ (q .defined ∷ q .modifiable ∷ q .format ∷ q .retry ∷ q .grouping ∷ q .patterns ∷ q .minLength ∷ q .maxLength ∷ q .input ∷ [])
 
 -- 10: with the policy's ID; PINValue becomes `#N/A` if UserDefined or without policy; EndorsedAlgorithms is left out
 abbrev pub issuerSets : Key → Rec → Bool

@@ -1,22 +1,22 @@
 -- Methods 8, 9, 10 and 12: a session makes PUKs, PIN policies and keys, and gives keys their paths. For each its refusals in the
--- paper's order, and what it does when none applies. `blk` are the session's own records.
+-- paper's order, and what it does when none applies. `blk` are the session's own records, `x` is the session itself.
 use mathlib.Core.Bool.{cond}
-use mathlib.Core.List.{List, [], _∷_}
+use mathlib.Core.List.{List, [], _∷_, _++_}
 use mathlib.Core.Option.{none, some as just}
-use Prim.Native.Nat.{ℕ}
+use Prim.Native.Nat.{ℕ, _-_}
 use lib.ListN.{length}
 use lib.Dec.{eqb}
 use Rattle.sha256.specs.Sha256.{SHA256}
 use Rattle.hmac.specs.Same.{same}
-use Rattle.paper.specs.Limits.{longestId, longestPin, longestPublicKey, lastFormat, lastGrouping, lastPatterns, lastProtection}
-use Rattle.paper.specs.Bytes.{enc4, padded, over, zerosOf, ascii}
+use Rattle.paper.specs.Limits.{bytesFrom, pinEnd, longestId, longestPin, longestPublicKey, lastFormat, lastGrouping, lastPatterns, lastProtection}
+use Rattle.paper.specs.Bytes.{enc4, paddedText, over, zerosOf, ascii}
 use Rattle.paper.specs.Form.{Rec, Form, _==_, _=<_, say, no, _and_, _or_, some, only, Fault, _gives_, settle}
-use Rattle.paper.specs.Records.{kind, PUK, POLICY, KEY, SESSION, is, at, own, session, parent, id, value, format, grouping, pathSet}
+use Rattle.paper.specs.Records.{kind, PUK, POLICY, KEY, is, at, parent, id, value, SessionValue, grouping, pathSet}
 use Rattle.paper.specs.Sound.{hasId, governs}
 use Rattle.paper.specs.Text.{formatFits, pinFits}
-use Rattle.paper.specs.Calls.{subject, Puk, puk, pukForm, Policy, policy, policyForm, Key, key, keyForm, Path, path, pathForm}
-use Rattle.paper.specs.Mac.{mac, attestation, pukData, policyData, keyData, issuerSets, pathData, keyAttested}
-use Rattle.paper.specs.Act.{Act, refuse, inside, noAttestation, advance, passesLimit, objectsUsedUp, fresh, flat}
+use Rattle.paper.specs.Calls.{subject, Puk, pukIn, pukForm, Policy, policyIn, policyForm, Key, keyIn, keyForm, Path, pathIn, pathForm}
+use Rattle.paper.specs.Mac.{uses, mac, attestation, pukData, policyData, keyData, issuerSets, pathData, keyAttested}
+use Rattle.paper.specs.Act.{Act, refuse, inside, noAttestation, advance, passesLimit, objectsUsedUp, fresh, itself, flat}
 
 -- An ID taken: by a PUK, a PIN policy or a key of this session.
 abbrev pub taken : List ℕ → List Rec → Form
@@ -30,60 +30,81 @@ differs given made = no (say (same given made))
 abbrev pub notThere : ℕ → Rec → ℕ → Form
 notThere k found handle = no (handle == 0) and no (kind found == k)
 
--- 8 createPUKPolicy
-abbrev pub pukFaults : List ℕ → List ℕ → Puk → Rec → List Rec → List Fault
-pukFaults c chip q ses blk =
+-- What every call that makes an object is asked last: its MAC, and an object number.
+abbrev pub sealedBy : List ℕ → List ℕ → SessionValue → List Fault
+sealedBy given made x = (differs given made gives 3) ∷ (objectsUsedUp x gives 2) ∷ []
+
+-- 8 createPUKPolicy. `v` is the PUK's value.
+abbrev pub pukRules : List ℕ → List ℕ → Puk → List ℕ → SessionValue → List Rec → List Fault
+pukRules c chip q v x blk =
     (no (pukForm c chip) gives 16)
     ∷ (taken (q .id) blk gives 17)
     ∷ (no (q .format =< lastFormat) gives 17)
-    ∷ (no (say (formatFits (q .format) (q .value))) gives 17)
-    ∷ (passesLimit 1 ses gives 17)
-    ∷ (differs (q .mac) (mac ses "createPUKPolicy" (pukData q)) gives 3)
-    ∷ (objectsUsedUp ses gives 2)
+    ∷ (no (say (formatFits (q .format) v)) gives 17)
+    ∷ (passesLimit (uses 8) x gives 17)
     ∷ []
 
-unfoldable pub pukRecord : ℕ → Puk → Rec → Rec
-pukRecord s q ses =
-    flat ((PUK ∷ []) ∷ (q .format ∷ []) ∷ (q .retry ∷ []) ∷ (0 ∷ []) ∷ enc4 (fresh s ses) ∷ enc4 s ∷ enc4 0
-    ∷ padded longestId (q .id) ∷ padded longestPin (q .value) ∷ zerosOf 190 ∷ [])
+abbrev pub pukSeal : Puk → SessionValue → List Fault
+pukSeal q x = sealedBy (q .mac) (mac x "createPUKPolicy" (pukData q)) x
 
-unfoldable pub makePuk : List ℕ → List ℕ → List Rec → Act
-makePuk c chip blk =
+abbrev pub pukFaults : List ℕ → List ℕ → Puk → List ℕ → SessionValue → List Rec → List Fault
+pukFaults c chip q v x blk = pukRules c chip q v x blk ++ pukSeal q x
+
+unfoldable pub pukRecord : ℕ → Puk → List ℕ → SessionValue → Rec
+pukRecord s q v x =
+    flat ((PUK ∷ []) ∷ (q .format ∷ []) ∷ (q .retry ∷ []) ∷ (0 ∷ []) ∷ enc4 (fresh s x) ∷ enc4 s ∷ enc4 0
+    ∷ paddedText longestId (q .id) ∷ paddedText longestPin v ∷ zerosOf (bytesFrom pinEnd) ∷ [])
+
+unfoldable pub makePukBy : SessionValue → List ℕ → List ℕ → List Rec → Act
+makePukBy x c chip blk =
     let s = subject c in
-    let ses = at SESSION s s blk in
-    settle (pukFaults c chip (puk c chip) ses blk) refuse
-    (inside (fresh s ses) noAttestation (advance s 1 1) (just (pukRecord s (puk c chip) ses)))
+    let q = pukIn c chip in
+    settle (pukFaults c chip q (q .value) x blk) refuse
+    (inside (fresh s x) noAttestation (advance s 1 (uses 8)) (just (pukRecord s q (q .value) x)))
+
+abbrev pub makePuk : List ℕ → List ℕ → List Rec → Act
+makePuk c chip blk = makePukBy (itself c blk) c chip blk
 
 -- 9 createPINPolicy
-abbrev pub policyFaults : List ℕ → List ℕ → Policy → Rec → Rec → List Rec → List Fault
-policyFaults c chip q puk ses blk =
+abbrev pub policyNames : List ℕ → List ℕ → Policy → Rec → List Rec → List Fault
+policyNames c chip q puk blk =
     (no (policyForm c chip) gives 16)
     ∷ (taken (q .id) blk gives 17)
     ∷ (notThere PUK puk (q .puk) gives 17)
-    ∷ (no (q .format =< lastFormat) gives 17)
+    ∷ []
+
+abbrev pub policyNumbers : Policy → SessionValue → List Fault
+policyNumbers q x =
+    (no (q .format =< lastFormat) gives 17)
     ∷ (q .retry == 0 gives 17)
     ∷ (no (q .grouping =< lastGrouping) gives 17)
     ∷ (no (q .patterns =< lastPatterns) gives 17)
-    ∷ (no (1 =< q .shortest and q .shortest =< q .longest and q .longest =< longestPin) gives 17)
+    ∷ (no (1 =< q .minLength and q .minLength =< q .maxLength and q .maxLength =< longestPin) gives 17)
     ∷ (no (q .input == 0) gives 17)
-    ∷ (passesLimit 1 ses gives 17)
-    ∷ (differs (q .mac) (mac ses "createPINPolicy" (policyData q puk)) gives 3)
-    ∷ (objectsUsedUp ses gives 2)
+    ∷ (passesLimit (uses 9) x gives 17)
     ∷ []
 
-unfoldable pub policyRecord : ℕ → Policy → Rec → Rec
-policyRecord s q ses =
-    flat ((POLICY ∷ []) ∷ (q .format ∷ []) ∷ (q .retry ∷ []) ∷ (q .grouping ∷ []) ∷ enc4 (fresh s ses) ∷ enc4 s ∷ enc4 (q .puk)
-    ∷ padded longestId (q .id) ∷ (q .defined ∷ []) ∷ (q .modifiable ∷ []) ∷ (q .patterns ∷ []) ∷ (q .shortest ∷ []) ∷ (q .longest ∷ [])
-    ∷ zerosOf 202 ∷ [])
+abbrev pub policySeal : Policy → Rec → SessionValue → List Fault
+policySeal q puk x = sealedBy (q .mac) (mac x "createPINPolicy" (policyData q puk)) x
 
-unfoldable pub makePolicy : List ℕ → List ℕ → List Rec → Act
-makePolicy c chip blk =
+abbrev pub policyFaults : List ℕ → List ℕ → Policy → Rec → SessionValue → List Rec → List Fault
+policyFaults c chip q puk x blk = policyNames c chip q puk blk ++ policyNumbers q x ++ policySeal q puk x
+
+unfoldable pub policyRecord : ℕ → Policy → SessionValue → Rec
+policyRecord s q x =
+    flat ((POLICY ∷ []) ∷ (q .format ∷ []) ∷ (q .retry ∷ []) ∷ (q .grouping ∷ []) ∷ enc4 (fresh s x) ∷ enc4 s ∷ enc4 (q .puk)
+    ∷ paddedText longestId (q .id) ∷ (q .defined ∷ []) ∷ (q .modifiable ∷ []) ∷ (q .patterns ∷ []) ∷ (q .minLength ∷ [])
+    ∷ (q .maxLength ∷ []) ∷ zerosOf (bytesFrom 54) ∷ [])
+
+unfoldable pub makePolicyBy : SessionValue → List ℕ → List ℕ → List Rec → Act
+makePolicyBy x c chip blk =
     let s = subject c in
-    let ses = at SESSION s s blk in
-    let q = policy c in
-    settle (policyFaults c chip q (at PUK (q .puk) s blk) ses blk) refuse
-    (inside (fresh s ses) noAttestation (advance s 1 1) (just (policyRecord s q ses)))
+    let q = policyIn c in
+    settle (policyFaults c chip q (at PUK (q .puk) s blk) x blk) refuse
+    (inside (fresh s x) noAttestation (advance s 1 (uses 9)) (just (policyRecord s q x)))
+
+abbrev pub makePolicy : List ℕ → List ℕ → List Rec → Act
+makePolicy c chip blk = makePolicyBy (itself c blk) c chip blk
 
 -- 10 createKeyEntry. The PIN: none without policy, PINValue if the user defines it, else the value that the chip opened.
 abbrev pub pinOf : Key → Rec → List ℕ
@@ -96,71 +117,94 @@ misplaced q pol =
     or (no (say (issuerSets q pol)) and no (length (q .opened) == 0))
     or (say (issuerSets q pol) and length (q .pinValue) == 0)
 
-abbrev pub breaksRule : Key → Rec → Form
-breaksRule q pol = no (q .policy == 0) and no (say (pinFits pol (pinOf q pol)))
+-- `v` is the PIN.
+abbrev pub breaksRule : Key → List ℕ → Rec → Form
+breaksRule q v pol = no (q .policy == 0) and no (say (pinFits pol v))
 
 -- Under grouping 1 a PIN unlike that of the policy's other keys.
-abbrev pub unlike : Key → Rec → List Rec → Form
-unlike q pol blk = grouping pol == 1 and some blk (λ x. governs pol x and no (say (same (value x) (pinOf q pol))))
+abbrev pub unlike : List ℕ → Rec → List Rec → Form
+unlike v pol blk = grouping pol == 1 and some blk (λ x. governs pol x and no (say (same (value x) v)))
 
 -- DeleteProtection 1 without PIN, 2 without PUK.
 abbrev pub unprotected : Key → Rec → Form
 unprotected q pol = (q .deletion == 1 and q .policy == 0) or (q .deletion == 2 and parent pol == 0)
 
-abbrev pub keyFaults : List ℕ → List ℕ → Key → Rec → Rec → List Rec → List Fault
-keyFaults c chip q pol ses blk =
+abbrev pub keyNames : List ℕ → List ℕ → Key → Rec → List Rec → List Fault
+keyNames c chip q pol blk =
     (no (keyForm c chip) gives 16)
     ∷ (differs (q .entryAlgorithm) (ascii "http://xmlns.webpki.org/sks/algorithm#key.1") gives 8)
     ∷ (differs (q .keyAlgorithm) (ascii "urn:oid:1.2.840.10045.3.1.7") gives 8)
     ∷ (no (q .endorsed == 0) gives 8)
     ∷ (taken (q .id) blk gives 17)
     ∷ (notThere POLICY pol (q .policy) gives 17)
-    ∷ (no (q .biometric == 0) gives 17)
+    ∷ []
+
+abbrev pub keyNumbers : Key → List Fault
+keyNumbers q =
+    (no (q .biometric == 0) gives 17)
     ∷ (no (q .export =< lastProtection) gives 17)
     ∷ (no (q .deletion =< lastProtection) gives 17)
     ∷ (no (length (q .parameters) == 0) gives 17)
-    ∷ (misplaced q pol gives 17)
-    ∷ (breaksRule q pol gives 17)
-    ∷ (unlike q pol blk gives 17)
-    ∷ (unprotected q pol gives 17)
-    ∷ (passesLimit 2 ses gives 17)
-    ∷ (differs (q .mac) (mac ses "createKeyEntry" (keyData q pol)) gives 3)
-    ∷ (objectsUsedUp ses gives 2)
     ∷ []
 
-unfoldable pub keyRecord : ℕ → Key → Rec → Rec → Rec
-keyRecord s q pol ses =
-    flat ((KEY ∷ []) ∷ (0 ∷ []) ∷ (0 ∷ []) ∷ (q .deletion ∷ []) ∷ enc4 (fresh s ses) ∷ enc4 s ∷ enc4 (q .policy)
-    ∷ padded longestId (q .id) ∷ padded longestPin (pinOf q pol) ∷ zerosOf 16 ∷ padded longestPublicKey (q .public) ∷ zerosOf 32
-    ∷ (q .caching ∷ []) ∷ (q .export ∷ []) ∷ (q .usage ∷ []) ∷ zerosOf 42 ∷ [])
+abbrev pub keyPin : Key → List ℕ → Rec → SessionValue → List Rec → List Fault
+keyPin q v pol x blk =
+    (misplaced q pol gives 17)
+    ∷ (breaksRule q v pol gives 17)
+    ∷ (unlike v pol blk gives 17)
+    ∷ (unprotected q pol gives 17)
+    ∷ (passesLimit (uses 10) x gives 17)
+    ∷ []
 
-unfoldable pub makeKey : List ℕ → List ℕ → List Rec → Act
-makeKey c chip blk =
+abbrev pub keySeal : Key → Rec → SessionValue → List Fault
+keySeal q pol x = sealedBy (q .mac) (mac x "createKeyEntry" (keyData q pol)) x
+
+abbrev pub keyFaults : List ℕ → List ℕ → Key → List ℕ → Rec → SessionValue → List Rec → List Fault
+keyFaults c chip q v pol x blk = keyNames c chip q pol blk ++ keyNumbers q ++ keyPin q v pol x blk ++ keySeal q pol x
+
+unfoldable pub keyRecord : ℕ → Key → List ℕ → SessionValue → Rec
+keyRecord s q v x =
+    flat ((KEY ∷ []) ∷ (0 ∷ []) ∷ (0 ∷ []) ∷ (q .deletion ∷ []) ∷ enc4 (fresh s x) ∷ enc4 s ∷ enc4 (q .policy)
+    ∷ paddedText longestId (q .id) ∷ paddedText longestPin v ∷ zerosOf (82 - pinEnd) ∷ paddedText longestPublicKey (q .public) ∷ zerosOf 32
+    ∷ (q .caching ∷ []) ∷ (q .export ∷ []) ∷ (q .usage ∷ []) ∷ zerosOf (bytesFrom 214) ∷ [])
+
+unfoldable pub makeKeyBy : SessionValue → List ℕ → List ℕ → List Rec → Act
+makeKeyBy x c chip blk =
     let s = subject c in
-    let ses = at SESSION s s blk in
-    let q = key c chip in
+    let q = keyIn c chip in
     let pol = at POLICY (q .policy) s blk in
-    settle (keyFaults c chip q pol ses blk) refuse
-    (inside (fresh s ses) (attestation ses (keyAttested q)) (advance s 1 2) (just (keyRecord s q pol ses)))
+    let v = pinOf q pol in
+    settle (keyFaults c chip q v pol x blk) refuse
+    (inside (fresh s x) (attestation x (keyAttested q)) (advance s 1 (uses 10)) (just (keyRecord s q v x)))
+
+abbrev pub makeKey : List ℕ → List ℕ → List Rec → Act
+makeKey c chip blk = makeKeyBy (itself c blk) c chip blk
 
 -- 12 setCertificatePath: no such key in this session; a path set twice.
-abbrev pub pathFaults : List ℕ → List ℕ → Path → Rec → Rec → List Fault
-pathFaults c chip q x ses =
+abbrev pub pathRules : List ℕ → List ℕ → Rec → SessionValue → List Fault
+pathRules c chip k x =
     (no (pathForm c chip) gives 16)
-    ∷ (no (kind x == KEY) gives 7)
-    ∷ (pathSet x == 1 gives 17)
-    ∷ (passesLimit 1 ses gives 17)
-    ∷ (differs (q .mac) (mac ses "setCertificatePath" (pathData x q)) gives 3)
+    ∷ (no (kind k == KEY) gives 7)
+    ∷ (pathSet k == 1 gives 17)
+    ∷ (passesLimit (uses 12) x gives 17)
     ∷ []
+
+abbrev pub pathSeal : Path → Rec → SessionValue → List Fault
+pathSeal q k x = (differs (q .mac) (mac x "setCertificatePath" (pathData k q)) gives 3) ∷ []
+
+abbrev pub pathFaults : List ℕ → List ℕ → Path → Rec → SessionValue → List Fault
+pathFaults c chip q k x = pathRules c chip k x ++ pathSeal q k x
 
 -- The key now has a path, and the digest of its end-entity certificate.
 unfoldable pub certified : List ℕ → Rec → Rec
 certified d r = over 1 (1 ∷ []) (over 179 d r)
 
-unfoldable pub setPath : List ℕ → List ℕ → List Rec → Act
-setPath c chip blk =
+unfoldable pub setPathBy : SessionValue → List ℕ → List ℕ → List Rec → Act
+setPathBy x c chip blk =
     let s = subject c in
-    let ses = at SESSION s s blk in
-    let q = path c in
-    settle (pathFaults c chip q (at KEY (q .key) s blk) ses) refuse
-    (inside 0 noAttestation (λ r. only (is KEY (q .key) s) (certified (SHA256 (q .first))) (advance s 0 1 r)) none)
+    let q = pathIn c in
+    settle (pathFaults c chip q (at KEY (q .key) s blk) x) refuse
+    (inside 0 noAttestation (λ r. only (is KEY (q .key) s) (certified (SHA256 (q .first))) (advance s 0 (uses 12) r)) none)
+
+abbrev pub setPath : List ℕ → List ℕ → List Rec → Act
+setPath c chip blk = setPathBy (itself c blk) c chip blk

@@ -83,8 +83,19 @@ macCounter r = two 114 r
 abbrev pub keyLimit : Rec → ℕ
 keyLimit r = two 116 r
 
-abbrev pub managed : Rec → ℕ
-managed r = byte 119 r
+abbrev pub keyManagement : Rec → ℕ
+keyManagement r = byte 119 r
+
+-- What a call sees of its own session: the record's fields by value.
+pub record SessionValue : Type 0 where
+  pub key : List ℕ
+  pub client : List ℕ
+  pub counter : ℕ
+  pub limit : ℕ
+  pub next : ℕ
+
+abbrev pub byValue : Rec → SessionValue
+byValue r = record { key = sessionKey r; client = clientId r; counter = macCounter r; limit = keyLimit r; next = nextObject r }
 
 -- 2 PUK and 3 PIN policy
 abbrev pub format : Rec → ℕ
@@ -108,11 +119,11 @@ userModifiable r = byte 50 r
 abbrev pub patterns : Rec → ℕ
 patterns r = byte 51 r
 
-abbrev pub shortest : Rec → ℕ
-shortest r = byte 52 r
+abbrev pub minLength : Rec → ℕ
+minLength r = byte 52 r
 
-abbrev pub longest : Rec → ℕ
-longest r = byte 53 r
+abbrev pub maxLength : Rec → ℕ
+maxLength r = byte 53 r
 
 -- 4 key; the value of a PUK, too, stands at 49 on
 abbrev pub pathSet : Rec → ℕ
@@ -133,8 +144,8 @@ value r = textAt 49 r
 abbrev pub publicKey : Rec → List ℕ
 publicKey r = textAt 82 r
 
-abbrev pub digest : Rec → List ℕ
-digest r = part 179 32 r
+abbrev pub certificateDigest : Rec → List ℕ
+certificateDigest r = part 179 32 r
 
 -- 5 pending
 abbrev pub operation : Rec → ℕ

@@ -1,20 +1,20 @@
 -- Methods 2, 3 and 5: a session is made, closed or aborted.
 use mathlib.Core.Bool.{cond}
-use mathlib.Core.List.{List, [], _∷_, map}
+use mathlib.Core.List.{List, [], _∷_, _++_, map}
 use mathlib.Core.Option.{none}
 use Prim.Native.Nat.{ℕ, _+_}
 use lib.ListN.{length}
 use lib.Dec.{eqb}
 use Rattle.hmac.specs.Same.{same}
-use Rattle.paper.specs.Limits.{longestId, mostSessions}
-use Rattle.paper.specs.Bytes.{enc2, enc4, padded, over, zerosOf, ascii}
+use Rattle.paper.specs.Limits.{bytesFrom, longestId, mostSessions}
+use Rattle.paper.specs.Bytes.{enc2, enc4, paddedText, over, zerosOf, ascii}
 use Rattle.paper.specs.Form.{Rec, Form, _==_, _=<_, say, no, _and_, _or_, some, only, seek, Fault, _gives_, settle}
-use Rattle.paper.specs.Records.{kind, SESSION, KEY, PENDING, COUNTER, OPEN, at, handle, clientId, nextSession, pathSet, isStale, zeros, room, insert}
+use Rattle.paper.specs.Records.{kind, SESSION, KEY, PENDING, COUNTER, OPEN, SessionValue, handle, clientId, nextSession, pathSet, isStale, zeros, room, insert}
 use Rattle.paper.specs.Sound.{childless}
-use Rattle.paper.specs.Calls.{subject, Create, create, createForm, Close, close, closeForm, abortForm}
-use Rattle.paper.specs.Mac.{mac, attestation, closeData, closeAttested}
+use Rattle.paper.specs.Calls.{Create, createIn, createForm, Close, closeIn, closeForm, abortForm}
+use Rattle.paper.specs.Mac.{uses, mac, attestation, closeData, closeAttested}
 use Rattle.paper.specs.Objects.{differs}
-use Rattle.paper.specs.Act.{Out, plain, noAttestation, Act, refuse, inside, close as closes, passesLimit, flat}
+use Rattle.paper.specs.Act.{Out, plain, noAttestation, Act, refuse, inside, close, passesLimit, itself, flat}
 
 -- 2 createProvisioningSession. The counter tells the next session number.
 abbrev pub counter : List Rec → Rec
@@ -39,8 +39,8 @@ given v = cond (eqb (length v) 0) 0 1
 
 unfoldable pub sessionRecord : ℕ → Create → Rec
 sessionRecord h q =
-    flat ((SESSION ∷ []) ∷ (OPEN ∷ []) ∷ enc2 1 ∷ enc4 h ∷ enc4 h ∷ enc4 0 ∷ padded longestId (q .server) ∷ padded longestId (q .client)
-    ∷ q .key ∷ enc2 0 ∷ enc2 (q .limit) ∷ (q .privacy ∷ []) ∷ (given (q .management) ∷ []) ∷ q .times ∷ zerosOf 128 ∷ [])
+    flat ((SESSION ∷ []) ∷ (OPEN ∷ []) ∷ enc2 1 ∷ enc4 h ∷ enc4 h ∷ enc4 0 ∷ paddedText longestId (q .server) ∷ paddedText longestId (q .client)
+    ∷ q .key ∷ enc2 0 ∷ enc2 (q .limit) ∷ (q .privacy ∷ []) ∷ (given (q .management) ∷ []) ∷ q .times ∷ zerosOf (bytesFrom 128) ∷ [])
 
 unfoldable pub counted : Rec → Rec
 counted = only (λ r. kind r == COUNTER) (λ r. over 4 (enc4 (nextSession r + 1)) r)
@@ -48,12 +48,12 @@ counted = only (λ r. kind r == COUNTER) (λ r. over 4 (enc4 (nextSession r + 1)
 unfoldable pub createSession : List ℕ → List ℕ → List Rec → Out
 createSession c chip rs =
     let h = handle (nextSession (counter rs)) 0 in
-    settle (createFaults c chip (create c chip) rs) (λ n. plain n rs)
+    settle (createFaults c chip (createIn c chip) rs) (λ n. plain n rs)
     (record {
       status = 0;
       handle = h;
       attestation = noAttestation;
-      store = insert (sessionRecord h (create c chip)) (map counted rs);
+      store = insert (sessionRecord h (createIn c chip)) (map counted rs);
     })
 
 -- 3 closeProvisioningSession: a key lacks its path, a policy has no child, or a pending is stale.
@@ -63,19 +63,23 @@ unfit blk =
     or some blk (childless blk)
     or some blk (λ r. kind r == PENDING and isStale r == 1)
 
-abbrev pub closeFaults : List ℕ → List ℕ → Close → Rec → List Rec → List Fault
-closeFaults c chip q ses blk =
-    (no (closeForm c chip) gives 16)
-    ∷ (passesLimit 2 ses gives 17)
-    ∷ (differs (q .mac) (mac ses "closeProvisioningSession" (closeData ses q)) gives 3)
+abbrev pub closeRules : List ℕ → List ℕ → SessionValue → List Fault
+closeRules c chip x = (no (closeForm c chip) gives 16) ∷ (passesLimit (uses 3) x gives 17) ∷ []
+
+abbrev pub closeSeal : Close → SessionValue → List Rec → List Fault
+closeSeal q x blk =
+    (differs (q .mac) (mac x "closeProvisioningSession" (closeData x q)) gives 3)
     ∷ (unfit blk gives 6)
     ∷ []
 
-unfoldable pub closeSession : List ℕ → List ℕ → List Rec → Act
-closeSession c chip blk =
-    let s = subject c in
-    let ses = at SESSION s s blk in
-    settle (closeFaults c chip (close c) ses blk) refuse (closes (attestation ses (closeAttested (close c))))
+abbrev pub closeFaults : List ℕ → List ℕ → Close → SessionValue → List Rec → List Fault
+closeFaults c chip q x blk = closeRules c chip x ++ closeSeal q x blk
+
+unfoldable pub closeBy : SessionValue → List ℕ → List ℕ → List Rec → Act
+closeBy x c chip blk = settle (closeFaults c chip (closeIn c) x blk) refuse (close (attestation x (closeAttested (closeIn c))))
+
+abbrev pub closeSession : List ℕ → List ℕ → List Rec → Act
+closeSession c chip blk = closeBy (itself c blk) c chip blk
 
 -- 5 abortProvisioningSession: the session and all its records are gone.
 abbrev pub abortFaults : List ℕ → List ℕ → List Fault

@@ -6,10 +6,10 @@ use Prim.Native.Nat.{ℕ, suc, _+_, _*_, _/_, _%_}
 use lib.ListN.{length}
 use lib.Dec.{eqb}
 use Rattle.hmac.specs.Same.{same}
-use Rattle.paper.specs.Limits.{recordBytes, fewestRecords, mostRecords, handleStep, mostObjects}
+use Rattle.paper.specs.Limits.{recordBytes, fewestRecords, mostRecords, handleStep, mostObjects, pinWidth, idWidth}
 use Rattle.paper.specs.Bytes.{part, within}
 use Rattle.paper.specs.Form.{Rec, Form, _==_, _=<_, say, no, _and_, _or_, _then_, each, some, apart, test}
-use Rattle.paper.specs.Records.{records, kind, SESSION, PUK, POLICY, KEY, PENDING, COUNTER, OPEN, CLOSED, own, session, parent, is, sessionOf, state, nextObject, nextSession, macCounter, keyLimit, managed, sessionKey, retryLimit, pukErrors, grouping, shortest, longest, pathSet, valueLength, keyErrors, deleteProtection, digest, operation, isStale}
+use Rattle.paper.specs.Records.{records, kind, SESSION, PUK, POLICY, KEY, PENDING, COUNTER, OPEN, CLOSED, own, session, parent, is, sessionOf, state, nextObject, nextSession, macCounter, keyLimit, keyManagement, sessionKey, retryLimit, pukErrors, grouping, minLength, maxLength, pathSet, valueLength, keyErrors, deleteProtection, certificateDigest, operation, isStale}
 use Rattle.paper.specs.Table.{obeysTable, isBlank}
 
 -- Its length fits.
@@ -26,8 +26,8 @@ hasHandle r = SESSION =< kind r and kind r =< PENDING
 abbrev pub hasId : Rec → Form
 hasId r = PUK =< kind r and kind r =< KEY
 
-abbrev pub orphaned : Rec → Form
-orphaned r = parent r == 0
+abbrev pub parentless : Rec → Form
+parentless r = parent r == 0
 
 -- Records obey the table.
 abbrev pub tabled : Rec → Form
@@ -60,40 +60,40 @@ belowCounter x y = kind x == COUNTER then kind y == SESSION then suc (own y) =< 
 
 -- Object IDs differ within a session, ClientSessionIDs over the store.
 abbrev pub idsDiffer : Rec → Rec → Form
-idsDiffer x y = hasId x then hasId y then session x == session y then no (say (same (part 16 33 x) (part 16 33 y)))
+idsDiffer x y = hasId x then hasId y then session x == session y then no (say (same (part 16 idWidth x) (part 16 idWidth y)))
 
 abbrev pub clientsDiffer : Rec → Rec → Form
-clientsDiffer x y = kind x == SESSION then kind y == SESSION then no (say (same (part 49 33 x) (part 49 33 y)))
+clientsDiffer x y = kind x == SESSION then kind y == SESSION then no (say (same (part 49 idWidth x) (part 49 idWidth y)))
 
 -- Each object's session exists;
-abbrev pub there : List Rec → ℕ → ℕ → ℕ → Form
-there rs k o s = some rs (is k o s)
+abbrev pub isIn : List Rec → ℕ → ℕ → ℕ → Form
+isIn rs k o s = some rs (is k o s)
 
 abbrev pub sessionThere : List Rec → Rec → Form
-sessionThere rs y = isObject y then there rs SESSION (session y) (session y)
+sessionThere rs y = isObject y then isIn rs SESSION (session y) (session y)
 
 -- a PIN's PUK and a key's PIN policy exist in the same session;
 abbrev pub pukThere : List Rec → Rec → Form
-pukThere rs y = kind y == POLICY then no (orphaned y) then there rs PUK (parent y) (session y)
+pukThere rs y = kind y == POLICY then no (parentless y) then isIn rs PUK (parent y) (session y)
 
 abbrev pub policyThere : List Rec → Rec → Form
-policyThere rs y = kind y == KEY then no (orphaned y) then there rs POLICY (parent y) (session y)
+policyThere rs y = kind y == KEY then no (parentless y) then isIn rs POLICY (parent y) (session y)
 
 -- a key has a PIN exactly if it has a policy, and no errors without one; DeleteProtection 1 has a PIN, 2 a PUK;
 abbrev pub bareKey : Rec → Form
 bareKey r =
-    kind r == KEY then orphaned r then
+    kind r == KEY then parentless r then
     valueLength r == 0 and keyErrors r == 0 and no (deleteProtection r == 1) and no (deleteProtection r == 2)
 
 abbrev pub pinnedKey : Rec → Form
-pinnedKey r = kind r == KEY then no (orphaned r) then no (valueLength r == 0)
+pinnedKey r = kind r == KEY then no (parentless r) then no (valueLength r == 0)
 
 -- the policy x is that of the key y
 abbrev pub governs : Rec → Rec → Form
 governs x y = kind x == POLICY and kind y == KEY and parent y == own x and session y == session x
 
 abbrev pub pukForProtection : Rec → Rec → Form
-pukForProtection x y = governs x y then deleteProtection y == 2 then no (orphaned x)
+pukForProtection x y = governs x y then deleteProtection y == 2 then no (parentless x)
 
 -- error counts are at most the retry limit (0 where a PUK's limit is 0);
 abbrev pub keyCounts : Rec → Rec → Form
@@ -107,10 +107,10 @@ abbrev pub macCounts : Rec → Form
 macCounts r = kind r == SESSION then macCounter r =< keyLimit r
 
 abbrev pub lengthsRise : Rec → Form
-lengthsRise r = kind r == POLICY then shortest r =< longest r
+lengthsRise r = kind r == POLICY then minLength r =< maxLength r
 
 abbrev pub noDigest : Rec → Form
-noDigest r = kind r == KEY then pathSet r == 0 then say (isBlank (digest r))
+noDigest r = kind r == KEY then pathSet r == 0 then say (isBlank (certificateDigest r))
 
 -- A closed session has a key, all its keys have paths, no policy in it lacks a child, and its SessionKey is zero.
 abbrev pub closed : Rec → Form
@@ -141,29 +141,29 @@ pendingOpen x y = kind x == SESSION then kind y == PENDING then session y == own
 
 -- it has no target exactly if it is stale;
 abbrev pub targetUnlessStale : Rec → Form
-targetUnlessStale r = kind r == PENDING then (isStale r == 1 then orphaned r) and (orphaned r then isStale r == 1)
+targetUnlessStale r = kind r == PENDING then (isStale r == 1 then parentless r) and (parentless r then isStale r == 1)
 
 -- an unstale one targets a key of a closed session that has a KeyManagementKey (and, for 51, a PIN policy);
 abbrev pub targetThere : List Rec → Rec → Form
-targetThere rs y = kind y == PENDING then no (orphaned y) then there rs KEY (parent y) (sessionOf (parent y))
+targetThere rs y = kind y == PENDING then no (parentless y) then isIn rs KEY (parent y) (sessionOf (parent y))
 
 abbrev pub targetManaged : Rec → Rec → Form
 targetManaged x y =
-    kind x == SESSION then kind y == PENDING then no (orphaned y) then own x == sessionOf (parent y) then
-    state x == CLOSED and managed x == 1
+    kind x == SESSION then kind y == PENDING then no (parentless y) then own x == sessionOf (parent y) then
+    state x == CLOSED and keyManagement x == 1
 
 abbrev pub targetPinned : Rec → Rec → Form
-targetPinned x y = kind x == KEY then kind y == PENDING then parent y == own x then operation y == 51 then no (orphaned x)
+targetPinned x y = kind x == KEY then kind y == PENDING then parent y == own x then operation y == 51 then no (parentless x)
 
 -- one session has at most one unstale pending per key;
 abbrev pub onePending : Rec → Rec → Form
-onePending x y = kind x == PENDING then kind y == PENDING then session x == session y then parent x == parent y then orphaned x
+onePending x y = kind x == PENDING then kind y == PENDING then session x == session y then parent x == parent y then parentless x
 
 -- keys under a shared policy have equal PINs.
 abbrev pub pinsShared : List Rec → Rec → Form
 pinsShared rs p =
     kind p == POLICY then grouping p == 1 then
-    each rs (λ x. governs p x then each rs (λ y. governs p y then say (same (part 49 17 x) (part 49 17 y))))
+    each rs (λ x. governs p x then each rs (λ y. governs p y then say (same (part 49 pinWidth x) (part 49 pinWidth y))))
 
 -- The clauses together: of one record, of two at different places, of one and another, and of what must be there.
 abbrev pub alone : Rec → Form

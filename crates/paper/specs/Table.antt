@@ -4,7 +4,7 @@ use mathlib.Core.List.{List, [], _∷_}
 use Prim.Native.Nat.{ℕ, zero, suc, _+_, _-_}
 use lib.ListN.{length}
 use lib.Dec.{eqb}
-use Rattle.paper.specs.Limits.{recordBytes, mostObjects, handleStep, longestId, longestPin, longestPublicKey, keyBytes, lastFormat, lastGrouping, lastPatterns, lastProtection}
+use Rattle.paper.specs.Limits.{recordBytes, bytesFrom, pinEnd, mostObjects, handleStep, longestId, longestPin, longestPublicKey, keyBytes, lastFormat, lastGrouping, lastPatterns, lastProtection}
 use Rattle.paper.specs.Bytes.{byte, two, four, part, within, allWithin, textAt}
 use Rattle.paper.specs.Form.{Rec}
 use Rattle.paper.specs.Records.{kind, FREE, SESSION, PUK, POLICY, KEY, PENDING, COUNTER, OPEN, CLOSED}
@@ -36,18 +36,18 @@ abbrev pub isText : ℕ → ℕ → ℕ → Rec → Bool
 isText n lo i r = within lo n (byte i r) && isBlank (part (i + 1 + byte i r) (n - byte i r) r)
 
 -- The field that stands at place i has its form.
-abbrev pub right : Field → ℕ → Rec → Bool
-right (u8 lo hi) i r = within lo hi (byte i r)
-right (u16 lo hi) i r = within lo hi (two i r)
-right (u32 lo hi) i r = within lo hi (four i r)
-right (bytes n) i r = true
-right (blank n) i r = isBlank (part i n r)
-right (text n lo) i r = isText n lo i r
-right (ident n lo) i r = isText n lo i r && printable (textAt i r)
+abbrev pub fieldFits : Field → ℕ → Rec → Bool
+fieldFits (u8 lo hi) i r = within lo hi (byte i r)
+fieldFits (u16 lo hi) i r = within lo hi (two i r)
+fieldFits (u32 lo hi) i r = within lo hi (four i r)
+fieldFits (bytes n) i r = true
+fieldFits (blank n) i r = isBlank (part i n r)
+fieldFits (text n lo) i r = isText n lo i r
+fieldFits (ident n lo) i r = isText n lo i r && printable (textAt i r)
 
 abbrev pub fits : List Field → ℕ → Rec → Bool
 fits [] i r = true
-fits (f ∷ fs) i r = right f i r && fits fs (i + width f) r
+fits (f ∷ fs) i r = fieldFits f i r && fits fs (i + width f) r
 
 abbrev pub flag : Field
 flag = u8 0 1
@@ -65,33 +65,33 @@ orphan fs = bytes 4 ∷ bytes 4 ∷ blank 4 ∷ fs
 abbrev pub sessionFields : List Field
 sessionFields =
     u8 SESSION SESSION ∷ u8 OPEN CLOSED ∷ u16 1 (suc mostObjects) ∷ orphan
-    (ident longestId 1 ∷ ident longestId 1 ∷ bytes keyBytes ∷ bytes 2 ∷ u16 1 65535 ∷ flag ∷ flag ∷ bytes 4 ∷ bytes 4 ∷ blank 128 ∷ [])
+    (ident longestId 1 ∷ ident longestId 1 ∷ bytes keyBytes ∷ bytes 2 ∷ u16 1 65535 ∷ flag ∷ flag ∷ bytes 4 ∷ bytes 4 ∷ blank (bytesFrom 128) ∷ [])
 
 -- 2: format, retry limit, errors; ID; value
 abbrev pub pukFields : List Field
 pukFields =
     u8 PUK PUK ∷ u8 0 lastFormat ∷ bytes 1 ∷ bytes 1 ∷ orphan
-    (ident longestId 1 ∷ text longestPin 1 ∷ blank 190 ∷ [])
+    (ident longestId 1 ∷ text longestPin 1 ∷ blank (bytesFrom pinEnd) ∷ [])
 
 -- 3: format, retry limit, grouping; ID; UserDefined; UserModifiable; patterns; min; max
 abbrev pub policyFields : List Field
 policyFields =
     u8 POLICY POLICY ∷ u8 0 lastFormat ∷ u8 1 255 ∷ u8 0 lastGrouping ∷ handles
-    (ident longestId 1 ∷ flag ∷ flag ∷ u8 0 lastPatterns ∷ u8 1 longestPin ∷ u8 1 longestPin ∷ blank 202 ∷ [])
+    (ident longestId 1 ∷ flag ∷ flag ∷ u8 0 lastPatterns ∷ u8 1 longestPin ∷ u8 1 longestPin ∷ blank (bytesFrom 54) ∷ [])
 
 -- 4: path, errors, DeleteProtection; ID; PIN; public key; digest; EnablePINCaching; ExportProtection; AppUsage
 abbrev pub keyFields : List Field
 keyFields =
     u8 KEY KEY ∷ flag ∷ bytes 1 ∷ u8 0 lastProtection ∷ handles
-    (ident longestId 1 ∷ text longestPin 0 ∷ blank 16 ∷ text longestPublicKey 1 ∷ bytes 32 ∷ flag ∷ u8 0 lastProtection ∷ bytes 1 ∷ blank 42 ∷ [])
+    (ident longestId 1 ∷ text longestPin 0 ∷ blank (82 - pinEnd) ∷ text longestPublicKey 1 ∷ bytes 32 ∷ flag ∷ u8 0 lastProtection ∷ bytes 1 ∷ blank (bytesFrom 214) ∷ [])
 
 -- 5: operation, stale; no ID
 abbrev pub pendingFields : List Field
-pendingFields = u8 PENDING PENDING ∷ u8 50 51 ∷ flag ∷ blank 1 ∷ handles (blank 240 ∷ [])
+pendingFields = u8 PENDING PENDING ∷ u8 50 51 ∷ flag ∷ blank 1 ∷ handles (blank (bytesFrom 16) ∷ [])
 
 -- 6: next session number; no other field
 abbrev pub counterFields : List Field
-counterFields = u8 COUNTER COUNTER ∷ blank 3 ∷ u32 1 handleStep ∷ blank 248 ∷ []
+counterFields = u8 COUNTER COUNTER ∷ blank 3 ∷ u32 1 handleStep ∷ blank (bytesFrom 8) ∷ []
 
 -- No other kind is right.
 abbrev pub fieldsOf : ℕ → List Field
@@ -102,7 +102,7 @@ fieldsOf k =
     (cond (eqb k KEY) keyFields
     (cond (eqb k PENDING) pendingFields
     (cond (eqb k COUNTER) counterFields
-    (u8 FREE FREE ∷ blank 255 ∷ []))))))
+    (u8 FREE FREE ∷ blank (bytesFrom 1) ∷ []))))))
 
 unfoldable pub obeysTable : Rec → Bool
 obeysTable r = eqb (length r) recordBytes && fits (fieldsOf (kind r)) 0 r

@@ -6,7 +6,7 @@ use lib.ListN.{length}
 use lib.Dec.{eqb}
 use Rattle.paper.specs.Bytes.{within, allWithin}
 use Rattle.paper.specs.Form.{Rec}
-use Rattle.paper.specs.Records.{format, patterns, shortest, longest}
+use Rattle.paper.specs.Records.{format, patterns, minLength, maxLength}
 
 -- Format 0: digits.
 abbrev pub digits : List ℕ → Bool
@@ -88,5 +88,5 @@ patternFits p v =
 -- A PIN meets the rule of its policy; a PUK that of its format alone.
 unfoldable pub pinFits : Rec → List ℕ → Bool
 pinFits policy v =
-    within (shortest policy) (longest policy) (length v)
+    within (minLength policy) (maxLength policy) (length v)
     && (formatFits (format policy) v && patternFits (patterns policy) v)

@@ -6,14 +6,14 @@ use Prim.Native.Nat.{ℕ}
 use lib.ListN.{length}
 use lib.Dec.{eqb}
 use Rattle.paper.specs.Limits.{longestPin}
-use Rattle.paper.specs.Bytes.{padded, over}
+use Rattle.paper.specs.Bytes.{paddedText, over}
 use Rattle.paper.specs.Form.{Rec, Form, _==_, say, no, _and_, _or_, some, only, Fault, _gives_, settle}
 use Rattle.paper.specs.Records.{kind, PUK, POLICY, PENDING, at, own, session, parent, grouping, userModifiable, deleteProtection}
 use Rattle.paper.specs.Sound.{governs}
 use Rattle.paper.specs.Text.{pinFits}
 use Rattle.paper.specs.Calls.{subject, typed, typedNew, typedForm, changeForm}
 use Rattle.paper.specs.Pin.{Verdict, locked, wrong, right, pinCheck, pukCheck, theKey, pinMissed, pinHit, pukMissed, pukHit}
-use Rattle.paper.specs.Closing.{one, none, effect, stale}
+use Rattle.paper.specs.Closing.{one, noKeys, effect, stale}
 use Rattle.paper.specs.Objects.{notThere}
 use Rattle.paper.specs.Posting.{target, isTarget}
 use Rattle.paper.specs.Act.{Out, plain}
@@ -32,10 +32,10 @@ tried wrong rs missed done = plain 1 missed
 tried right rs missed done = plain 0 done
 
 abbrev pub removed : ℕ → List Rec → List Rec
-removed k rs = map (effect (one k) none rs) rs
+removed k rs = map (effect (one k) noKeys rs) rs
 
 abbrev pub unlocked : ℕ → List Rec → List Rec
-unlocked k rs = map (effect none (one k) rs) rs
+unlocked k rs = map (effect noKeys (one k) rs) rs
 
 -- 80 delete. A value where DeleteProtection is 0 is status 1, nothing changed.
 abbrev pub deleteFaults : List ℕ → List ℕ → Rec → List Rec → List Fault
@@ -92,7 +92,7 @@ abbrev pub givenPin : Rec → Rec → Rec → Form
 givenPin x pol r = theKey x r or (grouping pol == 1 and governs pol r)
 
 unfoldable pub newPin : List ℕ → Rec → Rec
-newPin v r = over 49 (padded longestPin v) r
+newPin v r = over 49 (paddedText longestPin v) r
 
 unfoldable pub changed : Rec → Rec → List ℕ → List Rec → Rec → Rec
 changed x pol v rs r =

@@ -10,8 +10,8 @@ use lib.Dec.{lit≤}
 use Rattle.paper.specs.Form.{Rec, Form, _==_, no, _and_, some, test, Fact, only, keep}
 use Rattle.paper.specs.Records.{records, kind, SESSION, KEY, OPEN, CLOSED, own, session, state, bears, block, is, at, sessionOf}
 use Rattle.paper.specs.Sound.{sound}
-use Rattle.paper.specs.Calls.{subject, post, postForm}
-use Rattle.paper.specs.Posting.{target, home, isTarget, Look, look, postAs}
+use Rattle.paper.specs.Calls.{subject, postIn, postForm}
+use Rattle.paper.specs.Posting.{target, home, isTarget, Look, look, postAs, postBy}
 use Rattle.paper.specs.Act.{Out, Act, refuse, inside, close as closes, placed, fitsIn, wiped, perform}
 use Rattle.paper.specs.Answer.{Answer, answer, step, sessionStep, sessionAct, written}
 use Rattle.paper.proofs.Forms.{both, cases}
@@ -77,7 +77,7 @@ module _ (t : ℕ) (rs rs′ : List Rec) (F : Facts rs) (F′ : Facts rs′) (e 
 -- a post on no key of a closed session is refused before anything more is seen of it
 post-nowhere : (op : ℕ) (name : String) (c chip : List ℕ) (blk : List Rec) (l : Look) → l .there ≡ false
     → postAs op name c chip blk l ≡ cond (test (no (postForm c chip))) (refuse 16) (refuse 7)
-unfolding postAs
+unfolding postBy
 post-nowhere op name c chip blk l e = rw e
 
 act-nowhere : (c chip : List ℕ) (blk : List Rec) (l l′ : Look) → l .there ≡ false → l′ .there ≡ false → sessionAct c chip blk l ≡ sessionAct c chip blk l′
@@ -97,18 +97,18 @@ module _ (t : ℕ) (rs rs′ : List Rec) (F : Facts rs) (F′ : Facts rs′) (e 
       back w = let q = same-target t rs′ rs F′ F (sym e) k w in (ap kind (q .0) ∙ w .0, ap state (q .1) ∙ w .1)
 
 same-act : (c chip : List ℕ) (rs rs′ : List Rec) → Facts rs → Facts rs′ → 1 ≤ subject c → aside (subject c) rs ≡ aside (subject c) rs′
-    → sessionAct c chip (block (subject c) rs) (look (post c chip .key) rs) ≡ sessionAct c chip (block (subject c) rs′) (look (post c chip .key) rs′)
-same-act c chip rs rs′ F F′ l e = go (looks (subject c) rs rs′ F F′ e (post c chip .key))
+    → sessionAct c chip (block (subject c) rs) (look (postIn c chip .key) rs) ≡ sessionAct c chip (block (subject c) rs′) (look (postIn c chip .key) rs′)
+same-act c chip rs rs′ F F′ l e = go (looks (subject c) rs rs′ F F′ e (postIn c chip .key))
   where
     blocks : block (subject c) rs ≡ block (subject c) rs′
     blocks = sym (block-aside (subject c) rs l) ∙ ap (block (subject c)) e ∙ block-aside (subject c) rs′ l
 
-    go : (look (post c chip .key) rs ≡ look (post c chip .key) rs′) ⊎ ((look (post c chip .key) rs .there ≡ false) × (look (post c chip .key) rs′ .there ≡ false))
-        → sessionAct c chip (block (subject c) rs) (look (post c chip .key) rs) ≡ sessionAct c chip (block (subject c) rs′) (look (post c chip .key) rs′)
+    go : (look (postIn c chip .key) rs ≡ look (postIn c chip .key) rs′) ⊎ ((look (postIn c chip .key) rs .there ≡ false) × (look (postIn c chip .key) rs′ .there ≡ false))
+        → sessionAct c chip (block (subject c) rs) (look (postIn c chip .key) rs) ≡ sessionAct c chip (block (subject c) rs′) (look (postIn c chip .key) rs′)
     go (inl q) = ap₂ (sessionAct c chip) blocks q
     go (inr q) =
-        act-nowhere c chip (block (subject c) rs) (look (post c chip .key) rs) (look (post c chip .key) rs′) (q .0) (q .1)
-        ∙ ap (λ (b : List Rec). sessionAct c chip b (look (post c chip .key) rs′)) blocks
+        act-nowhere c chip (block (subject c) rs) (look (postIn c chip .key) rs) (look (postIn c chip .key) rs′) (q .0) (q .1)
+        ∙ ap (λ (b : List Rec). sessionAct c chip b (look (postIn c chip .key) rs′)) blocks
 
 -- ---- what it is answered
 
@@ -140,8 +140,8 @@ nobody-waits s s′ c chip reply T T′ h e p q =
     let F = facts s (T .sound) .0 in
     let F′ = facts s′ (T′ .sound) .0 in
     let a = same-act c chip rs rs′ F F′ (some-number (subject c) rs F (T .opened h)) e in
-    let i : step c chip rs ≡ perform (subject c) (sessionAct c chip (block (subject c) rs) (look (post c chip .key) rs)) rs = session-step c chip rs h in
-    let j : step c chip rs′ ≡ perform (subject c) (sessionAct c chip (block (subject c) rs) (look (post c chip .key) rs)) rs′ =
+    let i : step c chip rs ≡ perform (subject c) (sessionAct c chip (block (subject c) rs) (look (postIn c chip .key) rs)) rs = session-step c chip rs h in
+    let j : step c chip rs′ ≡ perform (subject c) (sessionAct c chip (block (subject c) rs) (look (postIn c chip .key) rs)) rs′ =
     session-step c chip rs′ h ∙ ap (λ (b : Act). perform (subject c) b rs′) (sym a) in
     let w = same-told (subject c) _ rs rs′ (λ z. p (status-is s c chip reply T ∙ ap (λ (o : Out). o .status) i ∙ z)) (λ z. q (status-is s′ c chip reply T′ ∙ ap (λ (o : Out). o .status) j ∙ z)) in
     let u = taken-answer s c chip reply T in

@@ -6,7 +6,7 @@ use native.Mathlib.Omega.{arith}
 use Rattle.paper.specs.Limits.{handleStep, mostObjects}
 use Rattle.paper.specs.Bytes.{byte, part, allWithin}
 use Rattle.paper.specs.Form.{Rec}
-use Rattle.paper.specs.Records.{kind, FREE, SESSION, PUK, POLICY, KEY, PENDING, COUNTER, CLOSED, own, session, parent, state, macCounter, keyLimit, sessionKey, retryLimit, pukErrors, shortest, longest, pathSet, valueLength, keyErrors, deleteProtection, digest, isStale, zeros}
+use Rattle.paper.specs.Records.{kind, FREE, SESSION, PUK, POLICY, KEY, PENDING, COUNTER, CLOSED, own, session, parent, state, macCounter, keyLimit, sessionKey, retryLimit, pukErrors, minLength, maxLength, pathSet, valueLength, keyErrors, deleteProtection, certificateDigest, isStale, zeros}
 use Rattle.paper.specs.Table.{obeysTable, isBlank}
 use Rattle.laws.proofs.Inserting.{byte-zeros}
 use Rattle.laws.proofs.Facts.{Alone}
@@ -41,8 +41,8 @@ module _ (r : Rec) (t : obeysTable r ≡ true) where
   -- the kinds that are no session
   other : (kind r ≡ SESSION → ⊥) → (PUK ≤ kind r → kind r ≤ PENDING → Carries r)
       → (kind r ≡ PUK → pukErrors r ≤ retryLimit r)
-      → (kind r ≡ POLICY → shortest r ≤ longest r)
-      → (kind r ≡ KEY → (parent r ≡ 0 → Bare r) × ((parent r ≡ 0 → ⊥) → valueLength r ≡ 0 → ⊥) × (pathSet r ≡ 0 → isBlank (digest r) ≡ true))
+      → (kind r ≡ POLICY → minLength r ≤ maxLength r)
+      → (kind r ≡ KEY → (parent r ≡ 0 → Bare r) × ((parent r ≡ 0 → ⊥) → valueLength r ≡ 0 → ⊥) × (pathSet r ≡ 0 → isBlank (certificateDigest r) ≡ true))
       → (kind r ≡ PENDING → (isStale r ≡ 1 → parent r ≡ 0) × (parent r ≡ 0 → isStale r ≡ 1))
       → Alone r
   other n carries puk policy key pending =
@@ -63,12 +63,12 @@ module _ (r : Rec) (t : obeysTable r ≡ true) where
   pub alone-puk : kind r ≡ PUK → Carries r → pukErrors r ≤ retryLimit r → Alone r
   alone-puk k c h = other (λ j. omega arith) (λ a b. c) (λ j. h) (λ j. absurd (omega arith)) (λ j. absurd (omega arith)) (λ j. absurd (omega arith))
 
-  pub alone-policy : kind r ≡ POLICY → Carries r → shortest r ≤ longest r → Alone r
+  pub alone-policy : kind r ≡ POLICY → Carries r → minLength r ≤ maxLength r → Alone r
   alone-policy k c h =
       other (λ j. omega arith) (λ a b. c) (λ j. absurd (omega arith)) (λ j. h) (λ j. absurd (omega arith)) (λ j. absurd (omega arith))
 
   pub alone-key : kind r ≡ KEY → Carries r → (parent r ≡ 0 → Bare r) → ((parent r ≡ 0 → ⊥) → valueLength r ≡ 0 → ⊥)
-      → (pathSet r ≡ 0 → isBlank (digest r) ≡ true) → Alone r
+      → (pathSet r ≡ 0 → isBlank (certificateDigest r) ≡ true) → Alone r
   alone-key k c a b d =
       other (λ j. omega arith) (λ x y. c) (λ j. absurd (omega arith)) (λ j. absurd (omega arith)) (λ j. (a, b, d)) (λ j. absurd (omega arith))
 

@@ -8,13 +8,13 @@ use lib.ListN.{length, take, drop, length-drop, take-append-drop}
 use lib.Seq.{length-take-le}
 use lib.Dec.{eqb, lit≤, lit<}
 use Rattle.hmac.proofs.Sameness.{eq-same}
-use Rattle.paper.specs.Limits.{longestId, keyBytes, handleStep, mostSessions, mostObjects}
-use Rattle.paper.specs.Bytes.{part, enc2, enc4, padded, zerosOf, over, allWithin}
+use Rattle.paper.specs.Limits.{longestId, keyBytes, handleStep, mostSessions, mostObjects, idWidth, bytesFrom}
+use Rattle.paper.specs.Bytes.{part, enc2, enc4, paddedText, zerosOf, over, allWithin}
 use Rattle.paper.specs.Form.{Rec, _==_, _=<_, Fact}
 use Rattle.paper.specs.Records.{kind, SESSION, COUNTER, OPEN, CLOSED, own, session, state, clientId, nextSession, macCounter, insert, handle}
 use Rattle.paper.specs.Table.{obeysTable, fieldsOf}
 use Rattle.paper.specs.Sound.{hasHandle}
-use Rattle.paper.specs.Calls.{Create, create, createForm, serverAt, ephemeralAt, issuerAt, managementAt, timesAt}
+use Rattle.paper.specs.Calls.{Create, createIn, createForm, serverAt, ephemeralAt, issuerAt, managementAt, timesAt}
 use Rattle.paper.specs.Act.{flat, plain}
 use Rattle.paper.specs.Sessions.{counter, clientTaken, createFaults, given, sessionRecord, counted, createSession}
 use Rattle.paper.proofs.Forms.{settled, cases}
@@ -52,24 +52,24 @@ onto (v ∷ vs) r = v ++ onto vs r
 module _ (h : ℕ) (q : Create) (small : h < word) (R : CreateRanges q) where
   abbrev head : List (List ℕ)
   head =
-      (SESSION ∷ []) ∷ (OPEN ∷ []) ∷ enc2 1 ∷ enc4 h ∷ enc4 h ∷ enc4 0 ∷ padded longestId (q .server) ∷ padded longestId (q .client)
+      (SESSION ∷ []) ∷ (OPEN ∷ []) ∷ enc2 1 ∷ enc4 h ∷ enc4 h ∷ enc4 0 ∷ paddedText longestId (q .server) ∷ paddedText longestId (q .client)
       ∷ q .key ∷ enc2 0 ∷ enc2 (q .limit) ∷ (q .privacy ∷ []) ∷ (given (q .management) ∷ []) ∷ []
 
   -- ClientTime and SessionLifeTime stand together in the record, and are two fields of the table
   abbrev sessionValues : List (List ℕ)
   sessionValues =
-      (SESSION ∷ []) ∷ (OPEN ∷ []) ∷ enc2 1 ∷ enc4 h ∷ enc4 h ∷ enc4 0 ∷ padded longestId (q .server) ∷ padded longestId (q .client)
+      (SESSION ∷ []) ∷ (OPEN ∷ []) ∷ enc2 1 ∷ enc4 h ∷ enc4 h ∷ enc4 0 ∷ paddedText longestId (q .server) ∷ paddedText longestId (q .client)
       ∷ q .key ∷ enc2 0 ∷ enc2 (q .limit) ∷ (q .privacy ∷ []) ∷ (given (q .management) ∷ [])
-      ∷ take 4 (q .times) ∷ drop 4 (q .times) ∷ zerosOf 128 ∷ []
+      ∷ take 4 (q .times) ∷ drop 4 (q .times) ∷ zerosOf (bytesFrom 128) ∷ []
 
   is-flat : sessionRecord h q ≡ flat sessionValues
   unfolding sessionRecord
   is-flat = ap (onto head) halves
     where
-      halves : flat (q .times ∷ zerosOf 128 ∷ []) ≡ flat (take 4 (q .times) ∷ drop 4 (q .times) ∷ zerosOf 128 ∷ [])
+      halves : flat (q .times ∷ zerosOf (bytesFrom 128) ∷ []) ≡ flat (take 4 (q .times) ∷ drop 4 (q .times) ∷ zerosOf (bytesFrom 128) ∷ [])
       halves =
-          ap (λ (t : List ℕ). t ++ (zerosOf 128 ++ [])) (sym (take-append-drop 4 (q .times)))
-          ∙ append-assoc (take 4 (q .times)) (drop 4 (q .times)) (zerosOf 128 ++ [])
+          ap (λ (t : List ℕ). t ++ (zerosOf (bytesFrom 128) ++ [])) (sym (take-append-drop 4 (q .times)))
+          ∙ append-assoc (take 4 (q .times)) (drop 4 (q .times)) (zerosOf (bytesFrom 128) ++ [])
 
   flag : given (q .management) ≤ 1
   flag = chosen (λ (n : ℕ). n ≤ 1) (eqb (length (q .management)) 0) 0 1 (λ e. lit≤ tt) (λ e. lit≤ tt)
@@ -85,7 +85,7 @@ module _ (h : ℕ) (q : Create) (small : h < word) (R : CreateRanges q) where
       & is-u16 1 65535 (q .limit) (R .limit .0) (let l = R .limit in omega arith) (R .limit .1)
       & is-u8 0 1 (q .privacy) (omega arith) (R .privacy) & is-u8 0 1 (given (q .management)) (omega arith) flag
       & is-bytes 4 (take 4 (q .times)) (length-take-le 4 (q .times) (let l = R .times in omega arith))
-      & is-bytes 4 (drop 4 (q .times)) (length-drop 4 (q .times) ∙ (let l = R .times in omega arith)) & is-blank 128 & done)
+      & is-bytes 4 (drop 4 (q .times)) (length-drop 4 (q .times) ∙ (let l = R .times in omega arith)) & is-blank (bytesFrom 128) & done)
 
   session-at : (j : ℕ) → part (offset j (fieldsOf SESSION)) (wide j (fieldsOf SESSION)) (sessionRecord h q) ≡ nth j sessionValues
   session-at j =
@@ -106,7 +106,7 @@ module _ (h : ℕ) (q : Create) (small : h < word) (R : CreateRanges q) where
   session-mac : macCounter (sessionRecord h q) ≡ 0
   session-mac = two-of 114 (sessionRecord h q) 0 (session-at 9) (lit< tt)
 
-  session-client : part 49 33 (sessionRecord h q) ≡ padded longestId (q .client)
+  session-client : part 49 idWidth (sessionRecord h q) ≡ paddedText longestId (q .client)
   session-client = session-at 7
 
   session-tabled : obeysTable (sessionRecord h q) ≡ true
@@ -176,7 +176,7 @@ module _ (rs : List Rec) (F : Facts rs) where
         subst (λ z. List·Memᴰ z rs) (sym (same (w .0) (λ k. n (sym (ap kind (w .2)) ∙ K .kind= ∙ k))) ∙ w .2) (w .1)
 
     born : (n : Rec) → kind n ≡ SESSION → own n ≡ N * handleStep → session n ≡ N * handleStep → obeysTable n ≡ true → state n ≡ OPEN → macCounter n ≡ 0
-        → ((x : Rec) → List·Memᴰ x rs → kind x ≡ SESSION → part 49 33 x ≡ part 49 33 n → ⊥) → Facts (insert n (map counted rs))
+        → ((x : Rec) → List·Memᴰ x rs → kind x ≡ SESSION → part 49 idWidth x ≡ part 49 idWidth n → ⊥) → Facts (insert n (map counted rs))
     born n k o t b v z free =
         let p = pos in
         entered n (map counted rs) F1
@@ -208,7 +208,7 @@ module _ (rs : List Rec) (F : Facts rs) where
 
 module _ (c chip : List ℕ) (bytes : allWithin 0 255 c ≡ true) (rs : List Rec) (F : Facts rs) where
   abbrev q : Create
-  q = create c chip
+  q = createIn c chip
 
   ranges : Fact (createForm c chip) → (q .limit ≡ 0 → ⊥) → CreateRanges q
   ranges w z =

@@ -2,18 +2,18 @@
 use mathlib.Core.Path.{_≡_, refl}
 use mathlib.Core.Bool.{true}
 use mathlib.Core.List.{List, [], _∷_}
-use Prim.Native.Nat.{ℕ, _≤_, _<_}
+use Prim.Native.Nat.{ℕ, _≤_, _<_, _-_}
 use native.Mathlib.Omega.{arith}
 use lib.ListN.{length}
 use lib.Dec.{lit≤, lit<}
-use Rattle.paper.specs.Limits.{longestId, longestPin, longestPublicKey, lastFormat, lastGrouping, lastPatterns, lastProtection}
-use Rattle.paper.specs.Bytes.{part, enc4, padded, zerosOf}
+use Rattle.paper.specs.Limits.{longestId, longestPin, longestPublicKey, lastFormat, lastGrouping, lastPatterns, lastProtection, pinWidth, idWidth, bytesFrom, pinEnd}
+use Rattle.paper.specs.Bytes.{part, enc4, paddedText, zerosOf}
 use Rattle.paper.specs.Form.{Rec}
-use Rattle.paper.specs.Records.{kind, PUK, POLICY, KEY, PENDING, own, session, parent, pukErrors, shortest, longest, valueLength, keyErrors, deleteProtection, digest, operation, isStale}
+use Rattle.paper.specs.Records.{SessionValue, kind, PUK, POLICY, KEY, PENDING, own, session, parent, pukErrors, minLength, maxLength, valueLength, keyErrors, deleteProtection, certificateDigest, operation, isStale}
 use Rattle.paper.specs.Table.{obeysTable, fieldsOf, printable}
 use Rattle.paper.specs.Calls.{Puk, Policy, Key}
 use Rattle.paper.specs.Act.{fresh}
-use Rattle.paper.specs.Objects.{pukRecord, policyRecord, pinOf, keyRecord}
+use Rattle.paper.specs.Objects.{pukRecord, policyRecord, keyRecord}
 use Rattle.paper.specs.Posting.{pendingRecord}
 use Rattle.laws.proofs.Bytes.{byte-of, four-of}
 use Rattle.laws.proofs.Strings.{text-length}
@@ -36,40 +36,40 @@ word = 4294967296
 
 -- ---- 8
 
-module _ (s : ℕ) (q : Puk) (ses : Rec) (small : fresh s ses < word) (I : Named
-    (q .id)) (v1 : 1 ≤ length (q .value)) (v2 : length (q .value) ≤ longestPin) (f : q .format ≤ lastFormat) where
+module _ (s : ℕ) (q : Puk) (v : List ℕ) (ses : SessionValue) (small : fresh s ses < word) (I : Named
+    (q .id)) (v1 : 1 ≤ length v) (v2 : length v ≤ longestPin) (f : q .format ≤ lastFormat) where
   abbrev pukValues : List (List ℕ)
   pukValues =
       (PUK ∷ []) ∷ (q .format ∷ []) ∷ (q .retry ∷ []) ∷ (0 ∷ []) ∷ enc4 (fresh s ses) ∷ enc4 s ∷ enc4 0
-      ∷ padded longestId (q .id) ∷ padded longestPin (q .value) ∷ zerosOf 190 ∷ []
+      ∷ paddedText longestId (q .id) ∷ paddedText longestPin v ∷ zerosOf (bytesFrom pinEnd) ∷ []
 
   puk-match : Match (fieldsOf PUK) pukValues
   puk-match =
       match
       (is-u8 PUK PUK PUK (lit≤ tt) (lit≤ tt) & is-u8 0 lastFormat (q .format) (omega arith) f & is-bytes 1 (q .retry ∷ []) refl & is-bytes 1 (0 ∷ []) refl
       & is-bytes 4 (enc4 (fresh s ses)) refl & is-bytes 4 (enc4 s) refl & is-blank 4
-      & is-ident longestId 1 (q .id) (I .0) (I .1) (lit< tt) (I .2) & is-text longestPin 1 (q .value) v1 v2 (lit< tt) & is-blank 190 & done)
+      & is-ident longestId 1 (q .id) (I .0) (I .1) (lit< tt) (I .2) & is-text longestPin 1 v v1 v2 (lit< tt) & is-blank (bytesFrom pinEnd) & done)
 
-  puk-at : (j : ℕ) → part (offset j (fieldsOf PUK)) (wide j (fieldsOf PUK)) (pukRecord s q ses) ≡ nth j pukValues
+  puk-at : (j : ℕ) → part (offset j (fieldsOf PUK)) (wide j (fieldsOf PUK)) (pukRecord s q v ses) ≡ nth j pukValues
   unfolding pukRecord
   puk-at j = field-built j (fieldsOf PUK) pukValues puk-match
 
-  pub puk-head : Head PUK (fresh s ses) s 0 (pukRecord s q ses)
+  pub puk-head : Head PUK (fresh s ses) s 0 (pukRecord s q v ses)
   puk-head =
-      let k = byte-of 0 (pukRecord s q ses) PUK (puk-at 0) in
+      let k = byte-of 0 (pukRecord s q v ses) PUK (puk-at 0) in
       record {
         kind= = k;
-        own= = four-of 4 (pukRecord s q ses) (fresh s ses) (puk-at 4) small;
-        session= = four-of 8 (pukRecord s q ses) s (puk-at 5) (omega arith);
-        parent= = four-of 12 (pukRecord s q ses) 0 (puk-at 6) (lit< tt);
+        own= = four-of 4 (pukRecord s q v ses) (fresh s ses) (puk-at 4) small;
+        session= = four-of 8 (pukRecord s q v ses) s (puk-at 5) (omega arith);
+        parent= = four-of 12 (pukRecord s q v ses) 0 (puk-at 6) (lit< tt);
         tabled = unfold pukRecord in tabled-built PUK pukValues puk-match k refl;
       }
 
-  pub puk-named : part 16 33 (pukRecord s q ses) ≡ padded longestId (q .id)
+  pub puk-named : part 16 idWidth (pukRecord s q v ses) ≡ paddedText longestId (q .id)
   puk-named = puk-at 7
 
-  pub puk-errors : pukErrors (pukRecord s q ses) ≡ 0
-  puk-errors = byte-of 3 (pukRecord s q ses) 0 (puk-at 3)
+  pub puk-errors : pukErrors (pukRecord s q v ses) ≡ 0
+  puk-errors = byte-of 3 (pukRecord s q v ses) 0 (puk-at 3)
 
 -- ---- 9
 
@@ -80,14 +80,14 @@ pub record PolicyRanges (q : Policy) : Type 0 where
   pub grouping : q .grouping ≤ lastGrouping
   pub flags : (q .defined ≤ 1) × (q .modifiable ≤ 1)
   pub patterns : q .patterns ≤ lastPatterns
-  pub lengths : (1 ≤ q .shortest) × (q .shortest ≤ q .longest) × (q .longest ≤ longestPin)
+  pub lengths : (1 ≤ q .minLength) × (q .minLength ≤ q .maxLength) × (q .maxLength ≤ longestPin)
 
-module _ (s : ℕ) (q : Policy) (ses : Rec) (small : fresh s ses < word) (above : q .puk < word) (I : Named (q .id)) (R : PolicyRanges q) where
+module _ (s : ℕ) (q : Policy) (ses : SessionValue) (small : fresh s ses < word) (above : q .puk < word) (I : Named (q .id)) (R : PolicyRanges q) where
   abbrev policyValues : List (List ℕ)
   policyValues =
       (POLICY ∷ []) ∷ (q .format ∷ []) ∷ (q .retry ∷ []) ∷ (q .grouping ∷ []) ∷ enc4 (fresh s ses) ∷ enc4 s ∷ enc4 (q .puk)
-      ∷ padded longestId (q .id) ∷ (q .defined ∷ []) ∷ (q .modifiable ∷ []) ∷ (q .patterns ∷ []) ∷ (q .shortest ∷ []) ∷ (q .longest ∷ [])
-      ∷ zerosOf 202 ∷ []
+      ∷ paddedText longestId (q .id) ∷ (q .defined ∷ []) ∷ (q .modifiable ∷ []) ∷ (q .patterns ∷ []) ∷ (q .minLength ∷ []) ∷ (q .maxLength ∷ [])
+      ∷ zerosOf (bytesFrom 54) ∷ []
 
   policy-match : Match (fieldsOf POLICY) policyValues
   policy-match =
@@ -98,8 +98,8 @@ module _ (s : ℕ) (q : Policy) (ses : Rec) (small : fresh s ses < word) (above 
       & is-ident longestId 1 (q .id) (I .0) (I .1) (lit< tt) (I .2)
       & is-u8 0 1 (q .defined) (omega arith) (R .flags .0) & is-u8 0 1 (q .modifiable) (omega arith) (R .flags .1)
       & is-u8 0 lastPatterns (q .patterns) (omega arith) (R .patterns)
-      & is-u8 1 longestPin (q .shortest) (R .lengths .0) (let l = R .lengths in omega arith)
-      & is-u8 1 longestPin (q .longest) (let l = R .lengths in omega arith) (R .lengths .2) & is-blank 202 & done)
+      & is-u8 1 longestPin (q .minLength) (R .lengths .0) (let l = R .lengths in omega arith)
+      & is-u8 1 longestPin (q .maxLength) (let l = R .lengths in omega arith) (R .lengths .2) & is-blank (bytesFrom 54) & done)
 
   policy-at : (j : ℕ) → part (offset j (fieldsOf POLICY)) (wide j (fieldsOf POLICY)) (policyRecord s q ses) ≡ nth j policyValues
   unfolding policyRecord
@@ -116,12 +116,12 @@ module _ (s : ℕ) (q : Policy) (ses : Rec) (small : fresh s ses < word) (above 
         tabled = unfold policyRecord in tabled-built POLICY policyValues policy-match k refl;
       }
 
-  pub policy-named : part 16 33 (policyRecord s q ses) ≡ padded longestId (q .id)
+  pub policy-named : part 16 idWidth (policyRecord s q ses) ≡ paddedText longestId (q .id)
   policy-named = policy-at 7
 
-  pub policy-lengths : shortest (policyRecord s q ses) ≤ longest (policyRecord s q ses)
+  pub policy-lengths : minLength (policyRecord s q ses) ≤ maxLength (policyRecord s q ses)
   policy-lengths =
-      rw (byte-of 52 (policyRecord s q ses) (q .shortest) (policy-at 11), byte-of 53 (policyRecord s q ses) (q .longest) (policy-at 12))
+      rw (byte-of 52 (policyRecord s q ses) (q .minLength) (policy-at 11), byte-of 53 (policyRecord s q ses) (q .maxLength) (policy-at 12))
       (R .lengths .1)
 
 -- ---- 10
@@ -132,13 +132,13 @@ pub record KeyRanges (q : Key) : Type 0 where
   pub export : q .export ≤ lastProtection
   pub public : (1 ≤ length (q .public)) × (length (q .public) ≤ longestPublicKey)
 
-module _ (s : ℕ) (q : Key) (pol ses : Rec) (small : fresh s ses < word) (above : q .policy < word) (I : Named
-    (q .id)) (R : KeyRanges q) (short : length (pinOf q pol) ≤ longestPin) where
+module _ (s : ℕ) (q : Key) (v : List ℕ) (ses : SessionValue) (small : fresh s ses < word) (above : q .policy < word) (I : Named
+    (q .id)) (R : KeyRanges q) (short : length v ≤ longestPin) where
   abbrev keyValues : List (List ℕ)
   keyValues =
       (KEY ∷ []) ∷ (0 ∷ []) ∷ (0 ∷ []) ∷ (q .deletion ∷ []) ∷ enc4 (fresh s ses) ∷ enc4 s ∷ enc4 (q .policy)
-      ∷ padded longestId (q .id) ∷ padded longestPin (pinOf q pol) ∷ zerosOf 16 ∷ padded longestPublicKey (q .public) ∷ zerosOf 32
-      ∷ (q .caching ∷ []) ∷ (q .export ∷ []) ∷ (q .usage ∷ []) ∷ zerosOf 42 ∷ []
+      ∷ paddedText longestId (q .id) ∷ paddedText longestPin v ∷ zerosOf (82 - pinEnd) ∷ paddedText longestPublicKey (q .public) ∷ zerosOf 32
+      ∷ (q .caching ∷ []) ∷ (q .export ∷ []) ∷ (q .usage ∷ []) ∷ zerosOf (bytesFrom 214) ∷ []
 
   key-match : Match (fieldsOf KEY) keyValues
   key-match =
@@ -146,55 +146,55 @@ module _ (s : ℕ) (q : Key) (pol ses : Rec) (small : fresh s ses < word) (above
       (is-u8 KEY KEY KEY (lit≤ tt) (lit≤ tt) & is-u8 0 1 0 (lit≤ tt) (lit≤ tt) & is-bytes 1 (0 ∷ []) refl
       & is-u8 0 lastProtection (q .deletion) (omega arith) (R .deletion)
       & is-bytes 4 (enc4 (fresh s ses)) refl & is-bytes 4 (enc4 s) refl & is-bytes 4 (enc4 (q .policy)) refl
-      & is-ident longestId 1 (q .id) (I .0) (I .1) (lit< tt) (I .2) & is-text longestPin 0 (pinOf q pol) (omega arith) short (lit< tt)
-      & is-blank 16 & is-text longestPublicKey 1 (q .public) (R .public .0) (R .public .1) (lit< tt) & is-bytes 32 (zerosOf 32) refl
+      & is-ident longestId 1 (q .id) (I .0) (I .1) (lit< tt) (I .2) & is-text longestPin 0 v (omega arith) short (lit< tt)
+      & is-blank (82 - pinEnd) & is-text longestPublicKey 1 (q .public) (R .public .0) (R .public .1) (lit< tt) & is-bytes 32 (zerosOf 32) refl
       & is-u8 0 1 (q .caching) (omega arith) (R .caching) & is-u8 0 lastProtection (q .export) (omega arith) (R .export)
-      & is-bytes 1 (q .usage ∷ []) refl & is-blank 42 & done)
+      & is-bytes 1 (q .usage ∷ []) refl & is-blank (bytesFrom 214) & done)
 
-  key-at : (j : ℕ) → part (offset j (fieldsOf KEY)) (wide j (fieldsOf KEY)) (keyRecord s q pol ses) ≡ nth j keyValues
+  key-at : (j : ℕ) → part (offset j (fieldsOf KEY)) (wide j (fieldsOf KEY)) (keyRecord s q v ses) ≡ nth j keyValues
   unfolding keyRecord
   key-at j = field-built j (fieldsOf KEY) keyValues key-match
 
-  pub key-head : Head KEY (fresh s ses) s (q .policy) (keyRecord s q pol ses)
+  pub key-head : Head KEY (fresh s ses) s (q .policy) (keyRecord s q v ses)
   key-head =
-      let k = byte-of 0 (keyRecord s q pol ses) KEY (key-at 0) in
+      let k = byte-of 0 (keyRecord s q v ses) KEY (key-at 0) in
       record {
         kind= = k;
-        own= = four-of 4 (keyRecord s q pol ses) (fresh s ses) (key-at 4) small;
-        session= = four-of 8 (keyRecord s q pol ses) s (key-at 5) (omega arith);
-        parent= = four-of 12 (keyRecord s q pol ses) (q .policy) (key-at 6) above;
+        own= = four-of 4 (keyRecord s q v ses) (fresh s ses) (key-at 4) small;
+        session= = four-of 8 (keyRecord s q v ses) s (key-at 5) (omega arith);
+        parent= = four-of 12 (keyRecord s q v ses) (q .policy) (key-at 6) above;
         tabled = unfold keyRecord in tabled-built KEY keyValues key-match k refl;
       }
 
-  pub key-named : part 16 33 (keyRecord s q pol ses) ≡ padded longestId (q .id)
+  pub key-named : part 16 idWidth (keyRecord s q v ses) ≡ paddedText longestId (q .id)
   key-named = key-at 7
 
-  pub key-pin : part 49 17 (keyRecord s q pol ses) ≡ padded longestPin (pinOf q pol)
+  pub key-pin : part 49 pinWidth (keyRecord s q v ses) ≡ paddedText longestPin v
   key-pin = key-at 8
 
-  pub key-pin-length : valueLength (keyRecord s q pol ses) ≡ length (pinOf q pol)
-  key-pin-length = text-length 49 longestPin (keyRecord s q pol ses) (pinOf q pol) key-pin short (lit< tt)
+  pub key-pin-length : valueLength (keyRecord s q v ses) ≡ length v
+  key-pin-length = text-length 49 longestPin (keyRecord s q v ses) v key-pin short (lit< tt)
 
-  pub key-errors : keyErrors (keyRecord s q pol ses) ≡ 0
-  key-errors = byte-of 2 (keyRecord s q pol ses) 0 (key-at 2)
+  pub key-errors : keyErrors (keyRecord s q v ses) ≡ 0
+  key-errors = byte-of 2 (keyRecord s q v ses) 0 (key-at 2)
 
-  pub key-protection : deleteProtection (keyRecord s q pol ses) ≡ q .deletion
-  key-protection = byte-of 3 (keyRecord s q pol ses) (q .deletion) (key-at 3)
+  pub key-protection : deleteProtection (keyRecord s q v ses) ≡ q .deletion
+  key-protection = byte-of 3 (keyRecord s q v ses) (q .deletion) (key-at 3)
 
-  pub key-digest : digest (keyRecord s q pol ses) ≡ zerosOf 32
+  pub key-digest : certificateDigest (keyRecord s q v ses) ≡ zerosOf 32
   key-digest = key-at 11
 
 -- ---- 50, 51
 
-module _ (op s k : ℕ) (ses : Rec) (small : fresh s ses < word) (above : k < word) (lo : 50 ≤ op) (hi : op ≤ 51) where
+module _ (op s k : ℕ) (ses : SessionValue) (small : fresh s ses < word) (above : k < word) (lo : 50 ≤ op) (hi : op ≤ 51) where
   abbrev pendingValues : List (List ℕ)
-  pendingValues = (PENDING ∷ []) ∷ (op ∷ []) ∷ (0 ∷ []) ∷ (0 ∷ []) ∷ enc4 (fresh s ses) ∷ enc4 s ∷ enc4 k ∷ zerosOf 240 ∷ []
+  pendingValues = (PENDING ∷ []) ∷ (op ∷ []) ∷ (0 ∷ []) ∷ (0 ∷ []) ∷ enc4 (fresh s ses) ∷ enc4 s ∷ enc4 k ∷ zerosOf (bytesFrom 16) ∷ []
 
   pending-match : Match (fieldsOf PENDING) pendingValues
   pending-match =
       match
       (is-u8 PENDING PENDING PENDING (lit≤ tt) (lit≤ tt) & is-u8 50 51 op lo hi & is-u8 0 1 0 (lit≤ tt) (lit≤ tt) & is-blank 1
-      & is-bytes 4 (enc4 (fresh s ses)) refl & is-bytes 4 (enc4 s) refl & is-bytes 4 (enc4 k) refl & is-blank 240 & done)
+      & is-bytes 4 (enc4 (fresh s ses)) refl & is-bytes 4 (enc4 s) refl & is-bytes 4 (enc4 k) refl & is-blank (bytesFrom 16) & done)
 
   pending-at : (j : ℕ) → part (offset j (fieldsOf PENDING)) (wide j (fieldsOf PENDING)) (pendingRecord op s k ses) ≡ nth j pendingValues
   unfolding pendingRecord

@@ -8,13 +8,13 @@ use Prim.Native.Nat.{ℕ, _+_, _*_, _≤_, _<_}
 use native.Mathlib.Omega.{arith}
 use lib.ListN.{length}
 use lib.Dec.{eqb, lit≤, lit<}
-use Rattle.paper.specs.Limits.{longestId, longestPin, keyBytes}
-use Rattle.paper.specs.Bytes.{enc2, enc4, over, padded, zerosOf, behind}
+use Rattle.paper.specs.Limits.{longestId, longestPin, keyBytes, bytesFrom}
+use Rattle.paper.specs.Bytes.{enc2, enc4, over, paddedText, zerosOf, behind}
 use Rattle.paper.specs.Form.{Rec, Form, _==_, _=<_, no, _and_, some, Fact, only}
 use Rattle.paper.specs.Records.{kind, SESSION, KEY, PENDING, COUNTER, OPEN, own, session, parent, bears, nextSession, retryLimit, deleteProtection, zeros, insert, block, at, handle}
-use Rattle.paper.specs.Closing.{stale, closing, Keys, effect, holds, one, none as noKeys}
+use Rattle.paper.specs.Closing.{stale, closing, Keys, effect, holds, one, noKeys}
 use Rattle.paper.specs.Pin.{Verdict, locked, wrong, right, clear, addOne, theKey, thePuk, pinMissed, pinHit, pukMissed, pukHit, pinCheck, pukCheck}
-use Rattle.paper.specs.Calls.{method, subject, isSessionCall, post, Create, create, createForm, timesAt, typed, typedNew, serverAt}
+use Rattle.paper.specs.Calls.{method, subject, isSessionCall, postIn, Create, createIn, createForm, timesAt, typed, typedNew, serverAt}
 use Rattle.paper.specs.Act.{Out, plain, Act, refuse, inside, close, perform, wiped, placed, fitsIn, noAttestation}
 use Rattle.paper.specs.Posting.{look, target}
 use Rattle.paper.specs.Sessions.{counter, createFaults, createSession, counted, sessionRecord, given}
@@ -164,7 +164,7 @@ module _ (a : ℕ) (rs : List Rec) (w : Whole rs) (b : Below a rs) where
 
   turn-session : (c chip : List ℕ) → Facts rs → Fact (isOpen (subject c) rs) → Fact (isSessionCall c) → Turn a rs (sessionStep c chip rs .store)
   unfolding sessionStep
-  turn-session c chip F o i = turn-perform (subject c) (Asking c chip) (sessionAct c chip (block (subject c) rs) (look (post c chip .key) rs)) (tame c chip rs F o i)
+  turn-session c chip F o i = turn-perform (subject c) (Asking c chip) (sessionAct c chip (block (subject c) rs) (look (postIn c chip .key) rs)) (tame c chip rs F o i)
 
   -- ---- a new session
 
@@ -175,7 +175,7 @@ module _ (a : ℕ) (rs : List Rec) (w : Whole rs) (b : Below a rs) where
       (λ n. turn-refl a rs w b) (λ f. made (holds′ (createForm c chip) (f .0)) (holds′ (nextSession (counter rs) =< 65535) (f .1 .1 .1 .1 .0)))
     where
       q : Create
-      q = create c chip
+      q = createIn c chip
 
       h : ℕ
       h = handle (nextSession (counter rs)) 0
@@ -206,7 +206,7 @@ module _ (a : ℕ) (rs : List Rec) (w : Whole rs) (b : Below a rs) where
           })
 
       rest : List (List ℕ)
-      rest = padded longestId (q .server) ∷ padded longestId (q .client) ∷ q .key ∷ enc2 0 ∷ enc2 (q .limit) ∷ (q .privacy ∷ []) ∷ (given (q .management) ∷ []) ∷ q .times ∷ zerosOf 128 ∷ []
+      rest = paddedText longestId (q .server) ∷ paddedText longestId (q .client) ∷ q .key ∷ enc2 0 ∷ enc2 (q .limit) ∷ (q .privacy ∷ []) ∷ (given (q .management) ∷ []) ∷ q .times ∷ zerosOf (bytesFrom 128) ∷ []
 
       is-newly : sessionRecord h q ≡ newly SESSION OPEN 0 1 h h 0 rest
       is-newly = unfold sessionRecord in refl
@@ -217,7 +217,7 @@ module _ (a : ℕ) (rs : List Rec) (w : Whole rs) (b : Below a rs) where
           let b = length-kept keyBytes longestId chip (f .1 .1 .1 .1 .1 .1 .0 .0 .1) in
           let d = length-part 0 keyBytes chip (chip-long (f .1 .1 .1 .1 .1 .1 .1)) in
           let e = length-part (timesAt c) 8 c (let x = f .1 .1 .1 .1 .1 .0 in omega arith) in
-          let z = length-zerosOf 128 in
+          let z = length-zerosOf (bytesFrom 128) in
           omega arith
         where
           chip-long : behind keyBytes chip ≡ length chip → 0 + keyBytes ≤ length chip
@@ -327,7 +327,7 @@ module _ (a : ℕ) (rs : List Rec) (w : Whole rs) (b : Below a rs) where
   keyed-pin : (key pol : Rec) (v : List ℕ) (x : Rec) → Keyed x (only (givenPin key pol) (newPin v) x)
   unfolding Keyed newPin
   keyed-pin key pol v x = only-is (Keyed x) (givenPin key pol) (newPin v) x (λ g. let k = is-key g in inr
-      (k, byte-over-other 49 0 (padded longestPin v) x (inr (lit< tt)) ∙ k, length-over 49 (padded longestPin v) x, four-over-other 49 8 (padded longestPin v) x (inr (lit≤ tt)))) (λ n. inl refl)
+      (k, byte-over-other 49 0 (paddedText longestPin v) x (inr (lit< tt)) ∙ k, length-over 49 (paddedText longestPin v) x, four-over-other 49 8 (paddedText longestPin v) x (inr (lit≤ tt)))) (λ n. inl refl)
     where
       is-key : Fact (givenPin key pol x) → kind x ≡ KEY
       is-key (inl i) = i .0

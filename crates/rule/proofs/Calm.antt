@@ -6,6 +6,7 @@ use mathlib.Core.Logic.{inr}
 use Prim.Native.Nat.{_≤_}
 use native.Mathlib.Omega.{arith}
 use Rattle.hmac.specs.Same.{same}
+use Rattle.paper.specs.Limits.{pinWidth}
 use Rattle.paper.specs.Bytes.{part}
 use Rattle.paper.specs.Form.{Rec, Form, Fact, only}
 use Rattle.paper.specs.Records.{kind, SESSION, KEY, state, retryLimit, keyErrors, grouping, pathSet}
@@ -22,7 +23,7 @@ pub record Calm (f : Rec → Rec) (rs : List Rec) : Type 0 where
   pub path : (x : Rec) → List·Memᴰ x rs → kind x ≡ KEY → pathSet x ≡ 1 → pathSet (f x) ≡ 1
   pub counts : (x y : Rec) → List·Memᴰ x rs → List·Memᴰ y rs → Fact (governs x y) → keyErrors (f y) ≤ retryLimit x
   pub pins : (p x y : Rec) → List·Memᴰ p rs → List·Memᴰ x rs → List·Memᴰ y rs → grouping p ≡ 1 → Fact (governs p x) → Fact (governs p y)
-      → same (part 49 17 (f x)) (part 49 17 (f y)) ≡ true
+      → same (part 49 pinWidth (f x)) (part 49 pinWidth (f y)) ≡ true
 
 pub calmed : (f : Rec → Rec) (rs : List Rec) → Facts rs → Calm f rs → Facts (map f rs)
 calmed f rs F C =
@@ -80,7 +81,7 @@ pub record Keyed (φ : Rec → Form) (e : Rec → Rec) (rs : List Rec) : Type 0 
   pub path : (x : Rec) → List·Memᴰ x rs → Fact (φ x) → pathSet x ≡ 1 → pathSet (e x) ≡ 1
   pub counts : (x y : Rec) → List·Memᴰ x rs → List·Memᴰ y rs → Fact (φ y) → Fact (governs x y) → keyErrors (e y) ≤ retryLimit x
   pub pins : (p x y : Rec) → List·Memᴰ p rs → List·Memᴰ x rs → List·Memᴰ y rs → grouping p ≡ 1 → Fact (governs p x) → Fact (governs p y)
-      → same (part 49 17 (only φ e x)) (part 49 17 (only φ e y)) ≡ true
+      → same (part 49 pinWidth (only φ e x)) (part 49 pinWidth (only φ e y)) ≡ true
 
 pub keyed : (φ : Rec → Form) (e : Rec → Rec) (rs : List Rec) → Facts rs → Keyed φ e rs → Facts (map (only φ e) rs)
 keyed φ e rs F S =
@@ -95,10 +96,10 @@ keyed φ e rs F S =
     })
 
 -- where the edit leaves PINs alone
-pub pins-kept : (φ : Rec → Form) (e : Rec → Rec) (rs : List Rec) → Facts rs → ((x : Rec) → List·Memᴰ x rs → Fact (φ x) → part 49 17 (e x) ≡ part 49 17 x)
+pub pins-kept : (φ : Rec → Form) (e : Rec → Rec) (rs : List Rec) → Facts rs → ((x : Rec) → List·Memᴰ x rs → Fact (φ x) → part 49 pinWidth (e x) ≡ part 49 pinWidth x)
     → (p x y : Rec) → List·Memᴰ p rs → List·Memᴰ x rs → List·Memᴰ y rs → grouping p ≡ 1 → Fact (governs p x) → Fact (governs p y)
-    → same (part 49 17 (only φ e x)) (part 49 17 (only φ e y)) ≡ true
+    → same (part 49 pinWidth (only φ e x)) (part 49 pinWidth (only φ e y)) ≡ true
 pins-kept φ e rs F h p x y mp mx my g gx gy = rw (pin x mx, pin y my) (F .shares p mp x mx y my (gx .0) g gx gy)
   where
-    pin : (z : Rec) → List·Memᴰ z rs → part 49 17 (only φ e z) ≡ part 49 17 z
-    pin z m = only-is (λ w. part 49 17 w ≡ part 49 17 z) φ e z (h z m) (λ n. refl)
+    pin : (z : Rec) → List·Memᴰ z rs → part 49 pinWidth (only φ e z) ≡ part 49 pinWidth z
+    pin z m = only-is (λ w. part 49 pinWidth w ≡ part 49 pinWidth z) φ e z (h z m) (λ n. refl)

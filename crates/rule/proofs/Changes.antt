@@ -7,8 +7,8 @@ use native.Mathlib.Omega.{arith}
 use lib.ListN.{length}
 use lib.Dec.{leb, lit≤}
 use borrow.Author.Tests.{leb-true, le-leb}
-use Rattle.paper.specs.Limits.{mostObjects, handleStep, longestPin}
-use Rattle.paper.specs.Bytes.{part, enc4, over, within, padded, allWithin}
+use Rattle.paper.specs.Limits.{mostObjects, handleStep, longestPin, pinWidth}
+use Rattle.paper.specs.Bytes.{part, enc4, over, within, paddedText, allWithin}
 use Rattle.paper.specs.Form.{Rec}
 use Rattle.paper.specs.Records.{kind, SESSION, PUK, POLICY, KEY, PENDING, COUNTER, parent, nextObject, nextSession, macCounter, keyLimit, retryLimit, pukErrors, keyErrors}
 use Rattle.paper.specs.Table.{obeysTable, isBlank, fieldsOf, text}
@@ -192,7 +192,7 @@ module _ (x : Rec) (A : Alone x) where
     pub kin-new-pin : Kin x (newPin v x)
     kin-new-pin = kin-key (from 49 17) x (newPin v x) N refl refl refl refl k refl refl
 
-    pub now-pin : part 49 17 (newPin v x) ≡ padded longestPin v
+    pub now-pin : part 49 pinWidth (newPin v x) ≡ paddedText longestPin v
     now-pin = pin-is v most x (rw long (lit≤ tt))
 
     pub alone-new-pin : Alone (newPin v x)
@@ -208,4 +208,4 @@ module _ (x : Rec) (A : Alone x) where
         table : retest (from 49 17) (fieldsOf KEY) 0 (newPin v x) ≡ true
         table =
             rw
-            (right-part (text longestPin 0) 49 (newPin v x) (padded longestPin v) now-pin (rw (N .long, long) (lit≤ tt)) (right-text longestPin 0 v (omega arith) most (lit≤ tt)))
+            (right-part (text longestPin 0) 49 (newPin v x) (paddedText longestPin v) now-pin (rw (N .long, long) (lit≤ tt)) (right-text longestPin 0 v (omega arith) most (lit≤ tt)))

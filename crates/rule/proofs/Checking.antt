@@ -11,12 +11,12 @@ use borrow.Author.Tests.{leb-true}
 use Rattle.hmac.specs.Same.{same}
 use Rattle.hmac.proofs.Sameness.{same-eq}
 use Rattle.paper.specs.Form.{Rec, say, no, test, Fact, Fault, _gives_, settle}
-use Rattle.paper.specs.Records.{records, SESSION, PUK, POLICY, KEY, at, block}
-use Rattle.paper.specs.Calls.{method, subject, isSessionCall, close, puk, policy, key, path, post}
+use Rattle.paper.specs.Records.{byValue, records, SESSION, PUK, POLICY, KEY, at, block}
+use Rattle.paper.specs.Calls.{method, subject, isSessionCall, closeIn, pukIn, policyIn, keyIn, pathIn, postIn}
 use Rattle.paper.specs.Mac.{mac, closeData, pukData, policyData, keyData, pathData, postData}
-use Rattle.paper.specs.Objects.{pukFaults, makePuk, policyFaults, makePolicy, keyFaults, makeKey, pathFaults, setPath}
-use Rattle.paper.specs.Posting.{Look, look, postFaults, postAs, postDelete, postUnlock}
-use Rattle.paper.specs.Sessions.{closeFaults, closeSession}
+use Rattle.paper.specs.Objects.{pinOf, pukFaults, makePuk, policyFaults, makePolicy, keyFaults, makeKey, pathFaults, setPath, makePolicyBy, makePukBy, makeKeyBy, setPathBy}
+use Rattle.paper.specs.Posting.{Look, look, postFaults, postDelete, postUnlock, postBy}
+use Rattle.paper.specs.Sessions.{closeFaults, closeSession, closeBy}
 use Rattle.paper.specs.Act.{Out, Act, refuse, perform}
 use Rattle.paper.specs.Answer.{sessionAct, sessionStep}
 use Rattle.paper.proofs.Forms.{Agree, both, contrary, Clear}
@@ -89,7 +89,7 @@ module _ (m : ℕ) (s c chip reply : List ℕ) (a : Accepted m s c chip reply) (
   t = subject c
 
   -- the act that was performed
-  pub zero-act : (b : Act) → sessionAct c chip (block t rs) (look (post c chip .key) rs) ≡ b → perform t b rs .status ≡ 0
+  pub zero-act : (b : Act) → sessionAct c chip (block t rs) (look (postIn c chip .key) rs) ≡ b → perform t b rs .status ≡ 0
   unfolding sessionStep
   zero-act b e =
       ap (λ (x : Act). perform t x rs .status) (sym e)
@@ -112,73 +112,73 @@ module _ (s c chip reply : List ℕ) where
   same-object k o = at-block k o (subject c) (records s)
 
   abbrev seen : Look
-  seen = look (post c chip .key) (records s)
+  seen = look (postIn c chip .key) (records s)
 
   -- no refusal of the method's list applied
   cleared : (m : ℕ) (fs : List Fault) (d : Act) → numbered fs ≡ true → Fact (isSessionCall c) → Accepted m s c chip reply
       → sessionAct c chip blk seen ≡ settle fs refuse d → Clear fs
   cleared m fs d n h a e = zero-clear (subject c) (records s) fs d n (zero-act m s c chip reply a h (settle fs refuse d) e)
 
-  closes : Accepted 3 s c chip reply → close c .mac ≡ mac (caller s c) "closeProvisioningSession" (closeData (caller s c) (close c))
-  unfolding closeSession
+  closes : Accepted 3 s c chip reply → closeIn c .mac ≡ mac (byValue (caller s c)) "closeProvisioningSession" (closeData (byValue (caller s c)) (closeIn c))
+  unfolding closeBy
   closes a =
-      let k : Clear (closeFaults c chip (close c) ses blk) = cleared 3 (closeFaults c chip (close c) ses blk) _ refl (inl (a .is)) a (act-3 c chip blk seen (a .is)) in
-      agreed (close c .mac) (mac ses "closeProvisioningSession" (closeData ses (close c))) (search)
-      ∙ ap (λ (x : Rec). mac x "closeProvisioningSession" (closeData x (close c))) same-session
+      let k : Clear (closeFaults c chip (closeIn c) (byValue ses) blk) = cleared 3 (closeFaults c chip (closeIn c) (byValue ses) blk) _ refl (inl (a .is)) a (act-3 c chip blk seen (a .is)) in
+      agreed (closeIn c .mac) (mac (byValue ses) "closeProvisioningSession" (closeData (byValue ses) (closeIn c))) (search)
+      ∙ ap (λ (x : Rec). mac (byValue x) "closeProvisioningSession" (closeData (byValue x) (closeIn c))) same-session
 
-  puks : Accepted 8 s c chip reply → puk c chip .mac ≡ mac (caller s c) "createPUKPolicy" (pukData (puk c chip))
-  unfolding makePuk
+  puks : Accepted 8 s c chip reply → pukIn c chip .mac ≡ mac (byValue (caller s c)) "createPUKPolicy" (pukData (pukIn c chip))
+  unfolding makePukBy
   puks a =
-      let k : Clear (pukFaults c chip (puk c chip) ses blk) = cleared 8 (pukFaults c chip (puk c chip) ses blk) _ refl (inr (inr (inl (a .is)))) a (act-8 c chip blk seen (a .is)) in
-      agreed (puk c chip .mac) (mac ses "createPUKPolicy" (pukData (puk c chip))) (search)
-      ∙ ap (λ (x : Rec). mac x "createPUKPolicy" (pukData (puk c chip))) same-session
+      let k : Clear (pukFaults c chip (pukIn c chip) (pukIn c chip .value) (byValue ses) blk) = cleared 8 (pukFaults c chip (pukIn c chip) (pukIn c chip .value) (byValue ses) blk) _ refl (inr (inr (inl (a .is)))) a (act-8 c chip blk seen (a .is)) in
+      agreed (pukIn c chip .mac) (mac (byValue ses) "createPUKPolicy" (pukData (pukIn c chip))) (search)
+      ∙ ap (λ (x : Rec). mac (byValue x) "createPUKPolicy" (pukData (pukIn c chip))) same-session
 
   policies : Accepted 9 s c chip reply
-      → policy c .mac ≡ mac (caller s c) "createPINPolicy" (policyData (policy c) (object s c PUK (policy c .puk)))
-  unfolding makePolicy
+      → policyIn c .mac ≡ mac (byValue (caller s c)) "createPINPolicy" (policyData (policyIn c) (object s c PUK (policyIn c .puk)))
+  unfolding makePolicyBy
   policies a =
-      let u : Rec = at PUK (policy c .puk) (subject c) blk in
-      let k : Clear (policyFaults c chip (policy c) u ses blk) = cleared 9 (policyFaults c chip (policy c) u ses blk) _ refl (inr (inr (inr (inl (a .is))))) a (act-9 c chip blk seen (a .is)) in
-      agreed (policy c .mac) (mac ses "createPINPolicy" (policyData (policy c) u)) (search)
-      ∙ ap₂ (λ (x y : Rec). mac x "createPINPolicy" (policyData (policy c) y)) same-session (same-object PUK (policy c .puk))
+      let u : Rec = at PUK (policyIn c .puk) (subject c) blk in
+      let k : Clear (policyFaults c chip (policyIn c) u (byValue ses) blk) = cleared 9 (policyFaults c chip (policyIn c) u (byValue ses) blk) _ refl (inr (inr (inr (inl (a .is))))) a (act-9 c chip blk seen (a .is)) in
+      agreed (policyIn c .mac) (mac (byValue ses) "createPINPolicy" (policyData (policyIn c) u)) (search)
+      ∙ ap₂ (λ (x y : Rec). mac (byValue x) "createPINPolicy" (policyData (policyIn c) y)) same-session (same-object PUK (policyIn c .puk))
 
   keys : Accepted 10 s c chip reply
-      → key c chip .mac ≡ mac (caller s c) "createKeyEntry" (keyData (key c chip) (object s c POLICY (key c chip .policy)))
-  unfolding makeKey
+      → keyIn c chip .mac ≡ mac (byValue (caller s c)) "createKeyEntry" (keyData (keyIn c chip) (object s c POLICY (keyIn c chip .policy)))
+  unfolding makeKeyBy
   keys a =
-      let p : Rec = at POLICY (key c chip .policy) (subject c) blk in
-      let k : Clear (keyFaults c chip (key c chip) p ses blk) =
-      cleared 10 (keyFaults c chip (key c chip) p ses blk) _ refl (inr (inr (inr (inr (inl (a .is)))))) a (act-10 c chip blk seen (a .is)) in
-      agreed (key c chip .mac) (mac ses "createKeyEntry" (keyData (key c chip) p)) (search)
-      ∙ ap₂ (λ (x y : Rec). mac x "createKeyEntry" (keyData (key c chip) y)) same-session (same-object POLICY (key c chip .policy))
+      let p : Rec = at POLICY (keyIn c chip .policy) (subject c) blk in
+      let k : Clear (keyFaults c chip (keyIn c chip) (pinOf (keyIn c chip) p) p (byValue ses) blk) =
+      cleared 10 (keyFaults c chip (keyIn c chip) (pinOf (keyIn c chip) p) p (byValue ses) blk) _ refl (inr (inr (inr (inr (inl (a .is)))))) a (act-10 c chip blk seen (a .is)) in
+      agreed (keyIn c chip .mac) (mac (byValue ses) "createKeyEntry" (keyData (keyIn c chip) p)) (search)
+      ∙ ap₂ (λ (x y : Rec). mac (byValue x) "createKeyEntry" (keyData (keyIn c chip) y)) same-session (same-object POLICY (keyIn c chip .policy))
 
   paths : Accepted 12 s c chip reply
-      → path c .mac ≡ mac (caller s c) "setCertificatePath" (pathData (object s c KEY (path c .key)) (path c))
-  unfolding setPath
+      → pathIn c .mac ≡ mac (byValue (caller s c)) "setCertificatePath" (pathData (object s c KEY (pathIn c .key)) (pathIn c))
+  unfolding setPathBy
   paths a =
-      let x : Rec = at KEY (path c .key) (subject c) blk in
-      let k : Clear (pathFaults c chip (path c) x ses) =
-      cleared 12 (pathFaults c chip (path c) x ses) _ refl (inr (inr (inr (inr (inr (inl (a .is))))))) a (act-12 c chip blk seen (a .is)) in
-      agreed (path c .mac) (mac ses "setCertificatePath" (pathData x (path c))) (search)
-      ∙ ap₂ (λ (y z : Rec). mac y "setCertificatePath" (pathData z (path c))) same-session (same-object KEY (path c .key))
+      let x : Rec = at KEY (pathIn c .key) (subject c) blk in
+      let k : Clear (pathFaults c chip (pathIn c) x (byValue ses)) =
+      cleared 12 (pathFaults c chip (pathIn c) x (byValue ses)) _ refl (inr (inr (inr (inr (inr (inl (a .is))))))) a (act-12 c chip blk seen (a .is)) in
+      agreed (pathIn c .mac) (mac (byValue ses) "setCertificatePath" (pathData x (pathIn c))) (search)
+      ∙ ap₂ (λ (y z : Rec). mac (byValue y) "setCertificatePath" (pathData z (pathIn c))) same-session (same-object KEY (pathIn c .key))
 
-  posts : (op : ℕ) (name : String) → Clear (postFaults op name c chip (post c chip) ses blk seen)
-      → post c chip .mac ≡ mac (caller s c) name (postData (post c chip))
+  posts : (op : ℕ) (name : String) → Clear (postFaults op name c chip (postIn c chip) (byValue ses) blk seen)
+      → postIn c chip .mac ≡ mac (byValue (caller s c)) name (postData (postIn c chip))
   posts op name k =
-      agreed (post c chip .mac) (mac ses name (postData (post c chip))) (search)
-      ∙ ap (λ (x : Rec). mac x name (postData (post c chip))) same-session
+      agreed (postIn c chip .mac) (mac (byValue ses) name (postData (postIn c chip))) (search)
+      ∙ ap (λ (x : Rec). mac (byValue x) name (postData (postIn c chip))) same-session
 
-  deletions : Accepted 50 s c chip reply → post c chip .mac ≡ mac (caller s c) "postDeleteKey" (postData (post c chip))
-  unfolding postAs
+  deletions : Accepted 50 s c chip reply → postIn c chip .mac ≡ mac (byValue (caller s c)) "postDeleteKey" (postData (postIn c chip))
+  unfolding postBy
   deletions a =
       posts 50 "postDeleteKey"
-      (cleared 50 (postFaults 50 "postDeleteKey" c chip (post c chip) ses blk seen) _ refl (inr (inr (inr (inr (inr (inr (inl (a .is)))))))) a (act-50 c chip blk seen (a .is)))
+      (cleared 50 (postFaults 50 "postDeleteKey" c chip (postIn c chip) (byValue ses) blk seen) _ refl (inr (inr (inr (inr (inr (inr (inl (a .is)))))))) a (act-50 c chip blk seen (a .is)))
 
-  unlockings : Accepted 51 s c chip reply → post c chip .mac ≡ mac (caller s c) "postUnlockKey" (postData (post c chip))
-  unfolding postAs
+  unlockings : Accepted 51 s c chip reply → postIn c chip .mac ≡ mac (byValue (caller s c)) "postUnlockKey" (postData (postIn c chip))
+  unfolding postBy
   unlockings a =
       posts 51 "postUnlockKey"
-      (cleared 51 (postFaults 51 "postUnlockKey" c chip (post c chip) ses blk seen) _ refl (inr (inr (inr (inr (inr (inr (inr (inl (a .is))))))))) a (act-51 c chip blk seen (a .is)))
+      (cleared 51 (postFaults 51 "postUnlockKey" c chip (postIn c chip) (byValue ses) blk seen) _ refl (inr (inr (inr (inr (inr (inr (inr (inl (a .is))))))))) a (act-51 c chip blk seen (a .is)))
 
 pub checked : Checked
 checked = record { closes = closes; puks = puks; policies = policies; keys = keys; paths = paths; deletions = deletions; unlockings = unlockings }

@@ -14,12 +14,12 @@ use Rattle.paper.specs.Bytes.{allWithin}
 use Rattle.paper.specs.Form.{Rec, Form, _==_, _=<_, say, no, _and_, some, test, Fact, only, Fault, _gives_, settle}
 use Rattle.paper.specs.Records.{records, joined, kind, SESSION, PUK, POLICY, KEY, PENDING, COUNTER, OPEN, state, at, block, bears, sessionOf, parent, session, deleteProtection, id, value, clientId, nextSession, handle, zeros, isFree, room, insert}
 use Rattle.paper.specs.Sound.{sound, hasId, governs}
-use Rattle.paper.specs.Calls.{method, subject, isSessionCall, Create, create, policy, key, path, post, typed, typedNew}
+use Rattle.paper.specs.Calls.{method, subject, isSessionCall, Create, createIn, policyIn, keyIn, pathIn, postIn, typed, typedNew}
 use Rattle.paper.specs.Pin.{Verdict, locked, wrong, right, pinCheck, pukCheck, theKey, thePuk, pinMissed, pinHit, pukMissed, pukHit}
-use Rattle.paper.specs.Closing.{held, one, none as nobody}
-use Rattle.paper.specs.Objects.{taken, pinOf, makePuk, makePolicy, makeKey, setPath}
-use Rattle.paper.specs.Posting.{target, home, Look, look, postAs}
-use Rattle.paper.specs.Sessions.{counter, clientTaken, createFaults, sessionRecord, counted, createSession, closeSession}
+use Rattle.paper.specs.Closing.{held, one, noKeys as nobody}
+use Rattle.paper.specs.Objects.{taken, pinOf, makePuk, makePolicy, makeKey, setPath, makePolicyBy, makePukBy, makeKeyBy, setPathBy}
+use Rattle.paper.specs.Posting.{target, home, Look, look, postAs, postBy}
+use Rattle.paper.specs.Sessions.{counter, clientTaken, createFaults, sessionRecord, counted, createSession, closeSession, closeBy}
 use Rattle.paper.specs.Users.{policyOf, pukOf, tried, deleteFaults, deleteKey, unlockFaults, unlockKey, changeFaults, changePin, useFaults, useKey}
 use Rattle.paper.specs.Act.{Out, plain, noAttestation, Act, refuse, inside, close as closes, wiped, placed, fitsIn, perform}
 use Rattle.paper.specs.Answer.{sessionAct, sessionStep, userStep, step, isOpen, earlyFaults, Judged, judged, told, answer, written}
@@ -140,50 +140,50 @@ module _ (c chip : List ℕ) (rs rs′ : List Rec) (E : Even rs rs′) (F : Fact
   -- ---- so it comes to the same
 
   close-same : closeSession c chip blk ≡ closeSession c chip blk′
-  unfolding closeSession
+  unfolding closeBy
   close-same = rw (ses, unfit-even blk blk′ blocks)
 
   puk-same : makePuk c chip blk ≡ makePuk c chip blk′
-  unfolding makePuk
+  unfolding makePukBy
   puk-same = rw (ses, names _)
 
   policy-same : makePolicy c chip blk ≡ makePolicy c chip blk′
-  unfolding makePolicy
-  policy-same = rw (ses, object PUK (policy c .puk) (lit≤ tt) (lit≤ tt), names (policy c .id))
+  unfolding makePolicyBy
+  policy-same = rw (ses, object PUK (policyIn c .puk) (lit≤ tt) (lit≤ tt), names (policyIn c .id))
 
   key-same : makeKey c chip blk ≡ makeKey c chip blk′
-  unfolding makeKey
-  key-same = rw (ses, object POLICY (key c chip .policy) (lit≤ tt) (lit≤ tt), names (key c chip .id), others)
+  unfolding makeKeyBy
+  key-same = rw (ses, object POLICY (keyIn c chip .policy) (lit≤ tt) (lit≤ tt), names (keyIn c chip .id), others)
     where
       pol : Rec
-      pol = at POLICY (key c chip .policy) t blk′
+      pol = at POLICY (keyIn c chip .policy) t blk′
 
       unlikes : Rec → Form
-      unlikes x = governs pol x and no (say (same (value x) (pinOf (key c chip) pol)))
+      unlikes x = governs pol x and no (say (same (value x) (pinOf (keyIn c chip) pol)))
 
       others : test (some blk unlikes) ≡ test (some blk′ unlikes)
       others = some-same blk blk′ blocks unlikes (λ w. no-kind KEY (omega arith) (w .0 .1 .0))
 
   path-same : setPath c chip blk ≡ setPath c chip blk′
-  unfolding setPath
-  path-same = rw (ses, object KEY (path c .key) (lit≤ tt) (lit≤ tt))
+  unfolding setPathBy
+  path-same = rw (ses, object KEY (pathIn c .key) (lit≤ tt) (lit≤ tt))
 
   post-same : (op : ℕ) (name : String) (l : Look) → postAs op name c chip blk l ≡ postAs op name c chip blk′ l
-  unfolding postAs
-  post-same op name l = rw (ses, some-same blk blk′ blocks (held t (post c chip .key)) (λ w. no-kind PENDING (omega arith) (w .0)))
+  unfolding postBy
+  post-same op name l = rw (ses, some-same blk blk′ blocks (held t (postIn c chip .key)) (λ w. no-kind PENDING (omega arith) (w .0)))
 
-  act-same : sessionAct c chip blk (look (post c chip .key) rs) ≡ sessionAct c chip blk′ (look (post c chip .key) rs′)
+  act-same : sessionAct c chip blk (look (postIn c chip .key) rs) ≡ sessionAct c chip blk′ (look (postIn c chip .key) rs′)
   unfolding sessionAct
   act-same =
       rw (
-        looks (post c chip .key),
+        looks (postIn c chip .key),
         close-same,
         puk-same,
         policy-same,
         key-same,
         path-same,
-        post-same 50 "postDeleteKey" (look (post c chip .key) rs′),
-        post-same 51 "postUnlockKey" (look (post c chip .key) rs′),
+        post-same 50 "postDeleteKey" (look (postIn c chip .key) rs′),
+        post-same 51 "postUnlockKey" (look (postIn c chip .key) rs′),
       )
 
   -- ---- and does the same
@@ -216,7 +216,7 @@ module _ (c chip : List ℕ) (rs rs′ : List Rec) (E : Even rs rs′) (F : Fact
 
     session-congr : Congr (sessionStep c chip rs) (sessionStep c chip rs′)
     unfolding sessionStep
-    session-congr = rw act-same (perform-congr (sessionAct c chip blk′ (look (post c chip .key) rs′)))
+    session-congr = rw act-same (perform-congr (sessionAct c chip blk′ (look (postIn c chip .key) rs′)))
 
   -- ---- method 2
 
@@ -233,7 +233,7 @@ module _ (c chip : List ℕ) (rs rs′ : List Rec) (E : Even rs rs′) (F : Fact
       }))
     where
       q : Create
-      q = create c chip
+      q = createIn c chip
 
       counters : counter rs ≡ counter rs′
       counters = counter-even rs rs′ E F F′

@@ -12,14 +12,14 @@ use lib.Dec.{lit≤}
 use Rattle.sha256.specs.Sha256.{SHA256}
 use Rattle.paper.specs.Bytes.{allWithin}
 use Rattle.paper.specs.Form.{Rec, _=<_, _==_, Fact, only, Fault, _gives_, settle}
-use Rattle.paper.specs.Records.{records, kind, SESSION, PUK, POLICY, KEY, PENDING, at, block, bears, is, session, macCounter, keyLimit}
+use Rattle.paper.specs.Records.{byValue, records, kind, SESSION, PUK, POLICY, KEY, PENDING, at, block, bears, is, session, macCounter, keyLimit}
 use Rattle.paper.specs.Sound.{sound}
-use Rattle.paper.specs.Calls.{subject, isSessionCall, oneOf, close, puk, policy, key, path, post}
+use Rattle.paper.specs.Calls.{subject, isSessionCall, oneOf, closeIn, pukIn, policyIn, keyIn, pathIn, postIn}
 use Rattle.paper.specs.Mac.{uses}
 use Rattle.paper.specs.Closing.{hasKey, shut, sealed, closing}
-use Rattle.paper.specs.Objects.{pukFaults, makePuk, policyFaults, makePolicy, keyFaults, makeKey, pathFaults, certified, setPath}
-use Rattle.paper.specs.Posting.{Look, look, postFaults, postAs}
-use Rattle.paper.specs.Sessions.{closeFaults, closeSession}
+use Rattle.paper.specs.Objects.{pinOf, pukFaults, policyFaults, keyFaults, pathFaults, certified, makePolicyBy, makePukBy, makeKeyBy, setPathBy}
+use Rattle.paper.specs.Posting.{Look, look, postFaults, postAs, postBy}
+use Rattle.paper.specs.Sessions.{closeFaults, closeSession, closeBy}
 use Rattle.paper.specs.Act.{Out, Act, refuse, inside, placed, fitsIn, wiped, perform, moved, advance}
 use Rattle.paper.specs.Answer.{answer, step, sessionStep, sessionAct, isOpen}
 use Rattle.paper.proofs.Forms.{both, Clear, contrary}
@@ -80,7 +80,7 @@ module _ (m : ℕ) (s c chip reply : List ℕ) (bytes : allWithin 0 255 c ≡ tr
   ses = at SESSION t t (block t rs)
 
   abbrev act : Act
-  act = sessionAct c chip (block t rs) (look (post c chip .key) rs)
+  act = sessionAct c chip (block t rs) (look (postIn c chip .key) rs)
 
   ses-is : ses ≡ caller s c
   ses-is = at-block SESSION t t rs
@@ -150,56 +150,56 @@ module _ (s c chip reply : List ℕ) (bytes : allWithin 0 255 c ≡ true) where
   mine = at SESSION (subject c) (subject c) blk
 
   abbrev seen : Look
-  seen = look (post c chip .key) (records s)
+  seen = look (postIn c chip .key) (records s)
 
   abbrev Moved : ℕ → Type 0
   Moved used = macCounter (caller (answer s c chip reply .store) c) ≡ macCounter (caller s c) + used
 
   puk-moved : Accepted 8 s c chip reply → Fact (isSessionCall c) → Moved 1
-  unfolding makePuk
+  unfolding makePukBy
   puk-moved a h =
-      by-list 8 s c chip reply bytes a h (pukFaults c chip (puk c chip) mine blk) _ _ (advance (subject c) 1 1) _ 1 1 refl
+      by-list 8 s c chip reply bytes a h (pukFaults c chip (pukIn c chip) (pukIn c chip .value) (byValue mine) blk) _ _ (advance (subject c) 1 1) _ 1 1 refl
       (act-8 c chip blk seen (a .is)) (advance-me 8 s c chip reply bytes a h 1 1) (λ k. holds (macCounter mine + 1 =< keyLimit mine) (search))
 
   policy-moved : Accepted 9 s c chip reply → Fact (isSessionCall c) → Moved 1
-  unfolding makePolicy
+  unfolding makePolicyBy
   policy-moved a h =
-      by-list 9 s c chip reply bytes a h (policyFaults c chip (policy c) (at PUK (policy c .puk) (subject c) blk) mine blk) _ _ (advance (subject c) 1 1) _ 1 1 refl
+      by-list 9 s c chip reply bytes a h (policyFaults c chip (policyIn c) (at PUK (policyIn c .puk) (subject c) blk) (byValue mine) blk) _ _ (advance (subject c) 1 1) _ 1 1 refl
       (act-9 c chip blk seen (a .is)) (advance-me 9 s c chip reply bytes a h 1 1) (λ k. holds (macCounter mine + 1 =< keyLimit mine) (search))
 
   key-moved : Accepted 10 s c chip reply → Fact (isSessionCall c) → Moved 2
-  unfolding makeKey
+  unfolding makeKeyBy
   key-moved a h =
-      by-list 10 s c chip reply bytes a h (keyFaults c chip (key c chip) (at POLICY (key c chip .policy) (subject c) blk) mine blk) _ _ (advance (subject c) 1 2) _ 1 2 refl
+      by-list 10 s c chip reply bytes a h (keyFaults c chip (keyIn c chip) (pinOf (keyIn c chip) (at POLICY (keyIn c chip .policy) (subject c) blk)) (at POLICY (keyIn c chip .policy) (subject c) blk) (byValue mine) blk) _ _ (advance (subject c) 1 2) _ 1 2 refl
       (act-10 c chip blk seen (a .is)) (advance-me 10 s c chip reply bytes a h 1 2) (λ k. holds (macCounter mine + 2 =< keyLimit mine) (search))
 
   path-moved : Accepted 12 s c chip reply → Fact (isSessionCall c) → Moved 1
-  unfolding setPath
+  unfolding setPathBy
   path-moved a h =
-      by-list 12 s c chip reply bytes a h (pathFaults c chip (path c) (at KEY (path c .key) (subject c) blk) mine) _ _ edit _ 0 1 refl
+      by-list 12 s c chip reply bytes a h (pathFaults c chip (pathIn c) (at KEY (pathIn c .key) (subject c) blk) (byValue mine)) _ _ edit _ 0 1 refl
       (act-12 c chip blk seen (a .is)) edit-me (λ k. holds (macCounter mine + 1 =< keyLimit mine) (search))
     where
       edit : Rec → Rec
-      edit r = only (is KEY (path c .key) (subject c)) (certified (SHA256 (path c .first))) (advance (subject c) 0 1 r)
+      edit r = only (is KEY (pathIn c .key) (subject c)) (certified (SHA256 (pathIn c .first))) (advance (subject c) 0 1 r)
 
       edit-me : edit mine ≡ moved 0 1 mine
       edit-me =
-          ap (only (is KEY (path c .key) (subject c)) (certified (SHA256 (path c .first)))) (advance-me 12 s c chip reply bytes a h 0 1)
-          ∙ only-out (is KEY (path c .key) (subject c)) (certified (SHA256 (path c .first))) (moved 0 1 mine)
+          ap (only (is KEY (pathIn c .key) (subject c)) (certified (SHA256 (pathIn c .first)))) (advance-me 12 s c chip reply bytes a h 0 1)
+          ∙ only-out (is KEY (pathIn c .key) (subject c)) (certified (SHA256 (pathIn c .first))) (moved 0 1 mine)
           (λ w. let k = moved-is 12 s c chip reply bytes a h 0 1 .0 in let j = w .0 in omega arith)
 
   post-moved : (m op : ℕ) (name : String) → Accepted m s c chip reply → Fact (isSessionCall c) → sessionAct c chip blk seen ≡ postAs op name c chip blk seen → Moved 1
-  unfolding postAs
+  unfolding postBy
   post-moved m op name a h e =
-      by-list m s c chip reply bytes a h (postFaults op name c chip (post c chip) mine blk seen) _ _ (advance (subject c) 1 1) _ 1 1 refl
+      by-list m s c chip reply bytes a h (postFaults op name c chip (postIn c chip) (byValue mine) blk seen) _ _ (advance (subject c) 1 1) _ 1 1 refl
       e (advance-me m s c chip reply bytes a h 1 1) (λ k. holds (macCounter mine + 1 =< keyLimit mine) (search))
 
   -- close: the session's record is shut where the session has a key
   close-moved : Accepted 3 s c chip reply → Fact (hasKey (subject c) (records s)) → Moved 2
-  unfolding closeSession
+  unfolding closeBy
   close-moved a k =
       let h : Fact (isSessionCall c) = inl (a .is) in
-      let fs : List Fault = closeFaults c chip (close c) mine blk in
+      let fs : List Fault = closeFaults c chip (closeIn c) (byValue mine) blk in
       let w = here (subject c) (records s) (F 3 s c chip reply bytes a h) (O 3 s c chip reply bytes a h) in
       let clear : Clear fs = zero-clear (subject c) (records s) fs _ refl (zero-act 3 s c chip reply a h (closeSession c chip blk) (act-3 c chip blk seen (a .is))) in
       let left = holds (macCounter mine + 2 =< keyLimit mine) (search) in

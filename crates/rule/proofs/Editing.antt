@@ -6,10 +6,11 @@ use mathlib.Core.Logic.{_⊎_, inl, inr}
 use Prim.Native.Nat.{_≤_}
 use native.Mathlib.Omega.{arith}
 use Rattle.hmac.specs.Same.{same}
+use Rattle.paper.specs.Limits.{pinWidth}
 use Rattle.paper.specs.Bytes.{part}
 use Rattle.paper.specs.Form.{Rec, Fact}
-use Rattle.paper.specs.Records.{kind, SESSION, PUK, POLICY, KEY, PENDING, COUNTER, OPEN, CLOSED, own, session, parent, sessionOf, state, retryLimit, keyErrors, managed, grouping, pathSet, operation, zeros}
-use Rattle.paper.specs.Sound.{isObject, there, governs}
+use Rattle.paper.specs.Records.{kind, SESSION, PUK, POLICY, KEY, PENDING, COUNTER, OPEN, CLOSED, own, session, parent, sessionOf, state, retryLimit, keyErrors, keyManagement, grouping, pathSet, operation, zeros}
+use Rattle.paper.specs.Sound.{isObject, isIn, governs}
 use Rattle.laws.proofs.Inserting.{byte-zeros}
 use Rattle.laws.proofs.Lists.{map-all, pairs-map}
 use Rattle.laws.proofs.Facts.{Alone, Distinct, Related, Housed, Used, Shares, Facts}
@@ -21,7 +22,7 @@ pub record Edit (f : Rec → Rec) (rs : List Rec) : Type 0 where
   pub counter : (x : Rec) → List·Memᴰ x rs → kind x ≡ COUNTER → Kin x (f x)
   pub counts : (x y : Rec) → List·Memᴰ x rs → List·Memᴰ y rs → Fact (governs x y) → keyErrors (f y) ≤ retryLimit x
   pub pins : (p x y : Rec) → List·Memᴰ p rs → List·Memᴰ x rs → List·Memᴰ y rs → grouping p ≡ 1
-      → Fact (governs p x) → Kin x (f x) → Fact (governs p y) → Kin y (f y) → same (part 49 17 (f x)) (part 49 17 (f y)) ≡ true
+      → Fact (governs p x) → Kin x (f x) → Fact (governs p y) → Kin y (f y) → same (part 49 pinWidth (f x)) (part 49 pinWidth (f y)) ≡ true
   pub paths : (x y : Rec) → List·Memᴰ x rs → List·Memᴰ y rs → kind x ≡ SESSION → state (f x) ≡ CLOSED → kind y ≡ KEY → session y ≡ own x
       → Kin x (f x) → Kin y (f y) → pathSet (f y) ≡ 1
   pub opens : (x y : Rec) → List·Memᴰ x rs → List·Memᴰ y rs → kind x ≡ SESSION → kind y ≡ PENDING → session y ≡ own x
@@ -145,7 +146,7 @@ module _ (f : Rec → Rec) (rs : List Rec) (F : Facts rs) (E : Edit f rs) where
           (omega arith, (omega arith, (omega arith, omega arith)))
 
       managed-target : Kin x (f x) → Kin y (f y) → kind (f x) ≡ SESSION → kind (f y) ≡ PENDING → (parent (f y) ≡ 0 → ⊥) → own (f x) ≡ sessionOf (parent (f y))
-          → (parent (f y) ≡ parent y) ⊎ (parent (f y) ≡ 0) → (state (f x) ≡ CLOSED) × (managed (f x) ≡ 1)
+          → (parent (f y) ≡ parent y) ⊎ (parent (f y) ≡ 0) → (state (f x) ≡ CLOSED) × (keyManagement (f x) ≡ 1)
       managed-target X Y a b n e (inl q) =
           let Xo = X .own= (omega arith) in
           let g = R .targetManaged (omega arith) (omega arith) (λ z. n (omega arith)) (omega arith) in
@@ -209,7 +210,7 @@ module _ (f : Rec → Rec) (rs : List Rec) (F : Facts rs) (E : Edit f rs) where
       H = F .housed y my
 
       targeted : Kin y (f y) → kind (f y) ≡ PENDING → (parent (f y) ≡ 0 → ⊥) → (parent (f y) ≡ parent y) ⊎ (parent (f y) ≡ 0)
-          → Fact (there (map f rs) KEY (parent (f y)) (sessionOf (parent (f y))))
+          → Fact (isIn (map f rs) KEY (parent (f y)) (sessionOf (parent (f y))))
       targeted Y a n (inr e) = absurd (n e)
       targeted Y a n (inl e) =
           let w = H .targetThere (omega arith) (λ z. n (e ∙ z)) in

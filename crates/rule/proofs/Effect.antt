@@ -6,6 +6,7 @@ use mathlib.Core.Logic.{_⊎_, inl, inr}
 use Prim.Native.Nat.{ℕ, zero, suc, _≤_}
 use native.Mathlib.Omega.{arith}
 use lib.Dec.{lit≤}
+use Rattle.paper.specs.Limits.{pinWidth}
 use Rattle.paper.specs.Bytes.{part}
 use Rattle.paper.specs.Form.{Rec, Fact}
 use Rattle.paper.specs.Records.{kind, SESSION, PUK, POLICY, KEY, PENDING, own, session, parent, state, keyErrors, retryLimit, pathSet, zeros}
@@ -79,8 +80,8 @@ module _ (d u : Keys) (rs : List Rec) (F : Facts rs) where
   path= : (x : Rec) → kind x ≡ KEY → Kin x (f x) → pathSet (f x) ≡ pathSet x
   path= x k K = key-is (λ y. pathSet y ≡ pathSet x) x k K refl (clear-same 2 x .at 1 refl)
 
-  pin= : (x : Rec) → kind x ≡ KEY → Kin x (f x) → part 49 17 (f x) ≡ part 49 17 x
-  pin= x k K = key-is (λ y. part 49 17 y ≡ part 49 17 x) x k K refl (part-kept (from 2 1) x (clear 2 x) (clear-same 2 x) 49 17 refl)
+  pin= : (x : Rec) → kind x ≡ KEY → Kin x (f x) → part 49 pinWidth (f x) ≡ part 49 pinWidth x
+  pin= x k K = key-is (λ y. part 49 pinWidth y ≡ part 49 pinWidth x) x k K refl (part-kept (from 2 1) x (clear 2 x) (clear-same 2 x) 49 17 refl)
 
   -- with a closed session all in it go
   policy-gone : (x y : Rec) → List·Memᴰ x rs → List·Memᴰ y rs → kind x ≡ SESSION → kind y ≡ POLICY → own x ≡ session y → Goes x → Fact (policyGoes d rs y)

@@ -7,11 +7,11 @@ use Prim.Native.Nat.{ℕ, suc, _+_, _*_, _≤_}
 use native.Mathlib.Omega.{arith}
 use Rattle.hmac.specs.Same.{same}
 use Rattle.hmac.proofs.Sameness.{same-eq, eq-same}
-use Rattle.paper.specs.Limits.{handleStep}
+use Rattle.paper.specs.Limits.{handleStep, pinWidth, idWidth}
 use Rattle.paper.specs.Bytes.{part}
 use Rattle.paper.specs.Form.{Rec, Fact}
-use Rattle.paper.specs.Records.{kind, SESSION, PUK, POLICY, KEY, PENDING, COUNTER, OPEN, CLOSED, own, session, parent, sessionOf, state, nextObject, nextSession, retryLimit, keyErrors, managed, grouping, deleteProtection, operation, insert}
-use Rattle.paper.specs.Sound.{isObject, hasHandle, hasId, there, governs, child, sessionThere, pukThere, policyThere, targetThere}
+use Rattle.paper.specs.Records.{kind, SESSION, PUK, POLICY, KEY, PENDING, COUNTER, OPEN, CLOSED, own, session, parent, sessionOf, state, nextObject, nextSession, retryLimit, keyErrors, keyManagement, grouping, deleteProtection, operation, insert}
+use Rattle.paper.specs.Sound.{isObject, hasHandle, hasId, isIn, governs, child, sessionThere, pukThere, policyThere, targetThere}
 use Rattle.laws.proofs.Inserting.{mem-insert, insert-old, insert-all, pairs-insert}
 use Rattle.laws.proofs.Facts.{Alone, Distinct, Related, Housed, Used, Shares, Facts}
 
@@ -19,8 +19,8 @@ pub record Enter (n : Rec) (rs : List Rec) : Type 0 where
   pub sort : (SESSION ≤ kind n) × (kind n ≤ PENDING)
   pub alone : Alone n
   pub fresh : (x : Rec) → List·Memᴰ x rs → Fact (hasHandle x) → own x ≡ own n → ⊥
-  pub named : (x : Rec) → List·Memᴰ x rs → Fact (hasId x) → Fact (hasId n) → session x ≡ session n → part 16 33 x ≡ part 16 33 n → ⊥
-  pub client : (x : Rec) → List·Memᴰ x rs → kind x ≡ SESSION → kind n ≡ SESSION → part 49 33 x ≡ part 49 33 n → ⊥
+  pub named : (x : Rec) → List·Memᴰ x rs → Fact (hasId x) → Fact (hasId n) → session x ≡ session n → part 16 idWidth x ≡ part 16 idWidth n → ⊥
+  pub client : (x : Rec) → List·Memᴰ x rs → kind x ≡ SESSION → kind n ≡ SESSION → part 49 idWidth x ≡ part 49 idWidth n → ⊥
   pub held : (x : Rec) → List·Memᴰ x rs → kind x ≡ PENDING → kind n ≡ PENDING → session x ≡ session n → parent x ≡ parent n → parent n ≡ 0
   -- a new session is open and below the counter; a new object stands in an open session, below its next number
   pub young : kind n ≡ SESSION → state n ≡ OPEN
@@ -31,10 +31,10 @@ pub record Enter (n : Rec) (rs : List Rec) : Type 0 where
   pub policy : Fact (policyThere rs n)
   pub target : Fact (targetThere rs n)
   pub under : (x : Rec) → List·Memᴰ x rs → Fact (governs x n) → (keyErrors n ≤ retryLimit x) × (deleteProtection n ≡ 2 → parent x ≡ 0 → ⊥)
-  pub alike : (p y : Rec) → List·Memᴰ p rs → List·Memᴰ y rs → grouping p ≡ 1 → Fact (governs p n) → Fact (governs p y) → part 49 17 n ≡ part 49 17 y
+  pub alike : (p y : Rec) → List·Memᴰ p rs → List·Memᴰ y rs → grouping p ≡ 1 → Fact (governs p n) → Fact (governs p y) → part 49 pinWidth n ≡ part 49 pinWidth y
   pub pinned : (x : Rec) → List·Memᴰ x rs → kind x ≡ KEY → kind n ≡ PENDING → parent n ≡ own x → operation n ≡ 51 → parent x ≡ 0 → ⊥
   pub managed : (x : Rec) → List·Memᴰ x rs → kind x ≡ SESSION → kind n ≡ PENDING → (parent n ≡ 0 → ⊥) → own x ≡ sessionOf (parent n)
-      → (state x ≡ CLOSED) × (managed x ≡ 1)
+      → (state x ≡ CLOSED) × (keyManagement x ≡ 1)
 
 module _ (n : Rec) (rs : List Rec) (F : Facts rs) (E : Enter n rs) where
   abbrev after : List Rec
@@ -76,15 +76,15 @@ module _ (n : Rec) (rs : List Rec) (F : Facts rs) (E : Enter n rs) where
         record {
           oneCounter = λ a b. omega arith;
           handlesDiffer = λ a b e. E .fresh x m b (sym e);
-          idsDiffer = λ a b e q. E .named x m b a (sym e) (sym (same-eq (part 16 33 n) (part 16 33 x) q));
-          clientsDiffer = λ a b q. E .client x m b a (sym (same-eq (part 49 33 n) (part 49 33 x) q));
+          idsDiffer = λ a b e q. E .named x m b a (sym e) (sym (same-eq (part 16 idWidth n) (part 16 idWidth x) q));
+          clientsDiffer = λ a b q. E .client x m b a (sym (same-eq (part 49 idWidth n) (part 49 idWidth x) q));
           onePending = λ a b e q. E .held x m b a (sym e) (sym q);
         },
         record {
           oneCounter = λ a b. omega arith;
           handlesDiffer = λ a b e. E .fresh x m a e;
-          idsDiffer = λ a b e q. E .named x m a b e (same-eq (part 16 33 x) (part 16 33 n) q);
-          clientsDiffer = λ a b q. E .client x m a b (same-eq (part 49 33 x) (part 49 33 n) q);
+          idsDiffer = λ a b e q. E .named x m a b e (same-eq (part 16 idWidth x) (part 16 idWidth n) q);
+          clientsDiffer = λ a b q. E .client x m a b (same-eq (part 49 idWidth x) (part 49 idWidth n) q);
           onePending = λ a b e q. q ∙ E .held x m a b e q;
         },
       )
@@ -130,7 +130,7 @@ module _ (n : Rec) (rs : List Rec) (F : Facts rs) (E : Enter n rs) where
         targetPinned = λ a b e t z. omega arith;
       }
 
-  there-still : (k o s : ℕ) → 1 ≤ k → Fact (there rs k o s) → Fact (there after k o s)
+  there-still : (k o s : ℕ) → 1 ≤ k → Fact (isIn rs k o s) → Fact (isIn after k o s)
   there-still k o s l w = let e = w .2 .0 in (w .0, insert-old n rs (w .1) (omega arith), w .2)
 
   child-still : (k : ℕ) (p : Rec) → 1 ≤ k → Fact (child rs k p) → Fact (child after k p)
@@ -182,16 +182,16 @@ module _ (n : Rec) (rs : List Rec) (F : Facts rs) (E : Enter n rs) where
   shared : (p x y : Rec) → List·Memᴰ p after → List·Memᴰ x after → List·Memᴰ y after → Shares p x y
   shared p x y mp mx my k g gx gy = whose (mem-insert n rs mp) (mem-insert n rs mx) (mem-insert n rs my)
     where
-      equal : part 49 17 x ≡ part 49 17 y → same (part 49 17 x) (part 49 17 y) ≡ true
-      equal e = eq-same (part 49 17 x) (part 49 17 y) e
+      equal : part 49 pinWidth x ≡ part 49 pinWidth y → same (part 49 pinWidth x) (part 49 pinWidth y) ≡ true
+      equal e = eq-same (part 49 pinWidth x) (part 49 pinWidth y) e
 
-      keys : List·Memᴰ p rs → (x ≡ n) ⊎ List·Memᴰ x rs → (y ≡ n) ⊎ List·Memᴰ y rs → same (part 49 17 x) (part 49 17 y) ≡ true
-      keys ip (inl i) (inl j) = equal (ap (part 49 17) (i ∙ sym j))
-      keys ip (inl i) (inr j) = equal (ap (part 49 17) i ∙ E .alike p y ip j g (rw i at gx) gy)
-      keys ip (inr i) (inl j) = equal (sym (ap (part 49 17) j ∙ E .alike p x ip i g (rw j at gy) gx))
+      keys : List·Memᴰ p rs → (x ≡ n) ⊎ List·Memᴰ x rs → (y ≡ n) ⊎ List·Memᴰ y rs → same (part 49 pinWidth x) (part 49 pinWidth y) ≡ true
+      keys ip (inl i) (inl j) = equal (ap (part 49 pinWidth) (i ∙ sym j))
+      keys ip (inl i) (inr j) = equal (ap (part 49 pinWidth) i ∙ E .alike p y ip j g (rw i at gx) gy)
+      keys ip (inr i) (inl j) = equal (sym (ap (part 49 pinWidth) j ∙ E .alike p x ip i g (rw j at gy) gx))
       keys ip (inr i) (inr j) = F .shares p ip x i y j k g gx gy
 
-      whose : (p ≡ n) ⊎ List·Memᴰ p rs → (x ≡ n) ⊎ List·Memᴰ x rs → (y ≡ n) ⊎ List·Memᴰ y rs → same (part 49 17 x) (part 49 17 y) ≡ true
+      whose : (p ≡ n) ⊎ List·Memᴰ p rs → (x ≡ n) ⊎ List·Memᴰ x rs → (y ≡ n) ⊎ List·Memᴰ y rs → same (part 49 pinWidth x) (part 49 pinWidth y) ≡ true
       whose (inr ip) ix iy = keys ip ix iy
       whose (inl ip) (inl ix) iy = let a = ap kind ip in let b = ap kind ix in let c = gx .1 .0 in absurd (omega arith)
       whose (inl ip) (inr ix) iy = absurd (none-under x ix (sym (ap kind ip) ∙ k) (gx .1 .0) (gx .1 .1 .0 ∙ ap own ip))

@@ -13,15 +13,15 @@ use Rattle.sha256.specs.Sha256.{SHA256}
 use Rattle.paper.specs.Limits.{replyBytes, handleStep, mostObjects, mostSessions}
 use Rattle.paper.specs.Bytes.{byte, four, part, enc4, over, allWithin}
 use Rattle.paper.specs.Form.{Rec, Form, _==_, _=<_, no, _and_, test, Fact, only}
-use Rattle.paper.specs.Records.{records, kind, SESSION, PUK, POLICY, KEY, PENDING, COUNTER, own, session, at, is, block, bears, nextObject, nextSession, handle, parent, deleteProtection, zeros, room, insert}
+use Rattle.paper.specs.Records.{byValue, records, kind, SESSION, PUK, POLICY, KEY, PENDING, COUNTER, own, session, at, is, block, bears, nextObject, nextSession, handle, parent, deleteProtection, zeros, room, insert}
 use Rattle.paper.specs.Sound.{sound, isObject, hasHandle}
-use Rattle.paper.specs.Calls.{method, subject, isSessionCall, known, create, Create, close, puk, policy, key, path, post, typed, typedNew}
+use Rattle.paper.specs.Calls.{method, subject, isSessionCall, known, createIn, Create, closeIn, pukIn, policyIn, keyIn, pathIn, postIn, typed, typedNew}
 use Rattle.paper.specs.Mac.{attestation}
 use Rattle.paper.specs.Pin.{Verdict, locked, wrong, right, theKey, thePuk, clear, addOne, pinCheck, pukCheck, pinMissed, pinHit, pukMissed, pukHit}
-use Rattle.paper.specs.Closing.{Keys, one, none as nobody, effect, closing, stale}
-use Rattle.paper.specs.Objects.{pukFaults, pukRecord, makePuk, policyFaults, policyRecord, makePolicy, keyFaults, keyRecord, makeKey, pathFaults, certified, setPath}
-use Rattle.paper.specs.Posting.{target, Look, postFaults, pendingRecord, postAs, postDelete, postUnlock}
-use Rattle.paper.specs.Sessions.{counter, createFaults, sessionRecord, counted, createSession, closeFaults, closeSession, abortFaults, abortSession}
+use Rattle.paper.specs.Closing.{Keys, one, noKeys as nobody, effect, closing, stale}
+use Rattle.paper.specs.Objects.{pinOf, pukFaults, pukRecord, makePuk, policyFaults, policyRecord, makePolicy, keyFaults, keyRecord, makeKey, pathFaults, certified, setPath, makePolicyBy, makePukBy, makeKeyBy, setPathBy}
+use Rattle.paper.specs.Posting.{target, Look, postFaults, pendingRecord, postAs, postDelete, postUnlock, postBy}
+use Rattle.paper.specs.Sessions.{counter, createFaults, sessionRecord, counted, createSession, closeFaults, closeSession, abortFaults, abortSession, closeBy}
 use Rattle.paper.specs.Users.{policyOf, pukOf, tried, removed, unlocked, deleteFaults, deleteKey, unlockFaults, unlockKey, changeFaults, givenPin, newPin, changed, changePin, useFaults, useKey}
 use Rattle.paper.specs.Act.{Out, plain, Act, refuse, inside, close as closes, wiped, placed, fitsIn, perform, moved, advance, fresh}
 use Rattle.paper.specs.Answer.{sessionAct, sessionStep, userStep, step, isOpen, Answer, answer, written}
@@ -79,7 +79,7 @@ module _ (c chip : List ℕ) (rs : List Rec) (F : Facts rs) (O : Fact (isOpen (s
 
   -- the reply's handle is 0, or the session's next, which the new record has
   abbrev Fresh : ℕ → Rec → Type 0
-  Fresh n r = (n ≡ fresh t ses) × (nextObject ses ≤ mostObjects) × (own r ≡ n)
+  Fresh n r = (n ≡ fresh t (byValue ses)) × (nextObject ses ≤ mostObjects) × (own r ≡ n)
 
   abbrev New : ℕ → Option Rec → Type 0
   New n none = n ≡ 0
@@ -97,7 +97,7 @@ module _ (c chip : List ℕ) (rs : List Rec) (F : Facts rs) (O : Fact (isOpen (s
   gone n = hands-plain rs _ n (own-onward (λ r. zeros) (λ x m. rises-zeros x))
 
   -- the session's next handle was not given before
-  not-past : nextObject ses ≤ mostObjects → Past (fresh t ses) rs → ⊥
+  not-past : nextObject ses ≤ mostObjects → Past (fresh t (byValue ses)) rs → ⊥
   not-past l P =
       let w = here t rs F O in
       let e = w .1 .1 .0 in
@@ -140,56 +140,56 @@ module _ (c chip : List ℕ) (rs : List Rec) (F : Facts rs) (O : Fact (isOpen (s
   advances objects used l x m = rises-only x (is SESSION t t) (moved objects used) (λ w. rises-moved x (F .alone x m) (w .0) objects used l)
 
   -- a new object with the session's next handle
-  fresh-new : (r : Rec) → nextObject ses ≤ mostObjects → Fact (isObject r) → part 4 4 r ≡ enc4 (fresh t ses) → New (fresh t ses) (just r)
-  fresh-new r l k e = (k, inr (refl, l, four-of 4 r (fresh t ses) e (small t rs F O (nextObject ses) l)))
+  fresh-new : (r : Rec) → nextObject ses ≤ mostObjects → Fact (isObject r) → part 4 4 r ≡ enc4 (fresh t (byValue ses)) → New (fresh t (byValue ses)) (just r)
+  fresh-new r l k e = (k, inr (refl, l, four-of 4 r (fresh t (byValue ses)) e (small t rs F O (nextObject ses) l)))
 
   tidy-close : Tidy (closeSession c chip blk)
-  unfolding closeSession
-  tidy-close = settled Tidy (closeFaults c chip (close c) ses blk) refuse _ (λ n. tt) (λ k. tt)
+  unfolding closeBy
+  tidy-close = settled Tidy (closeFaults c chip (closeIn c) (byValue ses) blk) refuse _ (λ n. tt) (λ k. tt)
 
   tidy-abort : Tidy (abortSession c chip)
   unfolding abortSession
   tidy-abort = settled Tidy (abortFaults c chip) refuse _ (λ n. tt) (λ k. ((λ x m. rises-zeros x), refl))
 
   tidy-puk : Tidy (makePuk c chip blk)
-  unfolding makePuk
-  tidy-puk = settled Tidy (pukFaults c chip (puk c chip) ses blk) refuse _ (λ n. tt) (λ k. (
+  unfolding makePukBy
+  tidy-puk = settled Tidy (pukFaults c chip (pukIn c chip) (pukIn c chip .value) (byValue ses) blk) refuse _ (λ n. tt) (λ k. (
     advances 1 1 (lit≤ tt),
-    fresh-new (pukRecord t (puk c chip) ses) (holds (nextObject ses =< mostObjects) (search)) (unfold byte pukRecord in (lit≤ tt, lit≤ tt)) (unfold part pukRecord in refl),
+    fresh-new (pukRecord t (pukIn c chip) (pukIn c chip .value) (byValue ses)) (holds (nextObject ses =< mostObjects) (search)) (unfold byte pukRecord in (lit≤ tt, lit≤ tt)) (unfold part pukRecord in refl),
   ))
 
   tidy-policy : Tidy (makePolicy c chip blk)
-  unfolding makePolicy
-  tidy-policy = settled Tidy (policyFaults c chip (policy c) (at PUK (policy c .puk) t blk) ses blk) refuse _ (λ n. tt) (λ k. (
+  unfolding makePolicyBy
+  tidy-policy = settled Tidy (policyFaults c chip (policyIn c) (at PUK (policyIn c .puk) t blk) (byValue ses) blk) refuse _ (λ n. tt) (λ k. (
     advances 1 1 (lit≤ tt),
-    fresh-new (policyRecord t (policy c) ses) (holds (nextObject ses =< mostObjects) (search)) (unfold byte policyRecord in (lit≤ tt, lit≤ tt)) (unfold part policyRecord in refl),
+    fresh-new (policyRecord t (policyIn c) (byValue ses)) (holds (nextObject ses =< mostObjects) (search)) (unfold byte policyRecord in (lit≤ tt, lit≤ tt)) (unfold part policyRecord in refl),
   ))
 
   tidy-key : Tidy (makeKey c chip blk)
-  unfolding makeKey
+  unfolding makeKeyBy
   tidy-key =
-      let pol : Rec = at POLICY (key c chip .policy) t blk in
-      settled Tidy (keyFaults c chip (key c chip) pol ses blk) refuse _ (λ n. tt) (λ k. (
+      let pol : Rec = at POLICY (keyIn c chip .policy) t blk in
+      settled Tidy (keyFaults c chip (keyIn c chip) (pinOf (keyIn c chip) pol) pol (byValue ses) blk) refuse _ (λ n. tt) (λ k. (
         advances 1 2 (lit≤ tt),
-        fresh-new (keyRecord t (key c chip) pol ses) (holds (nextObject ses =< mostObjects) (search)) (unfold byte keyRecord in (lit≤ tt, lit≤ tt)) (unfold part keyRecord in refl),
+        fresh-new (keyRecord t (keyIn c chip) (pinOf (keyIn c chip) pol) (byValue ses)) (holds (nextObject ses =< mostObjects) (search)) (unfold byte keyRecord in (lit≤ tt, lit≤ tt)) (unfold part keyRecord in refl),
       ))
 
   tidy-path : Tidy (setPath c chip blk)
-  unfolding setPath
-  tidy-path = settled Tidy (pathFaults c chip (path c) _ ses) refuse _ (λ n. tt) (λ k. ((λ x m. certifies x m), refl))
+  unfolding setPathBy
+  tidy-path = settled Tidy (pathFaults c chip (pathIn c) _ (byValue ses)) refuse _ (λ n. tt) (λ k. ((λ x m. certifies x m), refl))
     where
       d : List ℕ
-      d = SHA256 (path c .first)
+      d = SHA256 (pathIn c .first)
 
-      certifies : (x : Rec) → List·Memᴰ x rs → Rises x (only (is KEY (path c .key) t) (certified d) (advance t 0 1 x))
+      certifies : (x : Rec) → List·Memᴰ x rs → Rises x (only (is KEY (pathIn c .key) t) (certified d) (advance t 0 1 x))
       certifies x m =
           rises-then x (advance t 0 1 x) _ (advances 0 1 (lit≤ tt) x m)
-          (rises-only (advance t 0 1 x) (is KEY (path c .key) t) (certified d) (λ w. let k = w .0 in rises-object (advance t 0 1 x) (certified d (advance t 0 1 x)) (certified-same d (length-hash (path c .first)) (advance t 0 1 x) .at 0 refl) (omega arith, omega arith)))
+          (rises-only (advance t 0 1 x) (is KEY (pathIn c .key) t) (certified d) (λ w. let k = w .0 in rises-object (advance t 0 1 x) (certified d (advance t 0 1 x)) (certified-same d (length-hash (pathIn c .first)) (advance t 0 1 x) .at 0 refl) (omega arith, omega arith)))
 
   tidy-post : (op : ℕ) (name : String) (l : Look) → Tidy (postAs op name c chip blk l)
-  unfolding postAs
+  unfolding postBy
   tidy-post op name l =
-      settled Tidy (postFaults op name c chip (post c chip) ses blk l) refuse _ (λ n. tt) (λ k. (advances 1 1 (lit≤ tt), ((unfold byte pendingRecord in (lit≤ tt, lit≤ tt)), inl refl)))
+      settled Tidy (postFaults op name c chip (postIn c chip) (byValue ses) blk l) refuse _ (λ n. tt) (λ k. (advances 1 1 (lit≤ tt), ((unfold byte pendingRecord in (lit≤ tt, lit≤ tt)), inl refl)))
 
   session-hands : Hands rs (sessionStep c chip rs)
   unfolding sessionStep sessionAct
@@ -222,7 +222,7 @@ module _ (c chip : List ℕ) (rs : List Rec) (F : Facts rs) where
       })
     where
       q : Create
-      q = create c chip
+      q = createIn c chip
 
       N : ℕ
       N = nextSession (counter rs)

@@ -4,9 +4,10 @@ use mathlib.Core.Logic.{_⊎_, inl, inr}
 use mathlib.Core.Bool.{Bool, false}
 use Prim.Native.Nat.{ℕ, _≤_}
 use native.Mathlib.Omega.{arith}
+use Rattle.paper.specs.Limits.{idWidth}
 use Rattle.paper.specs.Bytes.{part}
 use Rattle.paper.specs.Form.{Rec}
-use Rattle.paper.specs.Records.{kind, SESSION, PUK, POLICY, KEY, PENDING, COUNTER, CLOSED, own, session, parent, state, nextObject, managed, deleteProtection, operation}
+use Rattle.paper.specs.Records.{kind, SESSION, PUK, POLICY, KEY, PENDING, COUNTER, CLOSED, own, session, parent, state, nextObject, keyManagement, deleteProtection, operation}
 use Rattle.laws.proofs.Places.{Same, hit, four-kept, part-kept}
 
 pub record Kin (x x′ : Rec) : Type 0 where
@@ -15,9 +16,9 @@ pub record Kin (x x′ : Rec) : Type 0 where
   pub own= : kind x ≤ PENDING → own x′ ≡ own x
   pub more : own x ≤ own x′
   pub session= : session x′ ≡ session x
-  pub id= : part 16 33 x′ ≡ part 16 33 x
-  pub client= : kind x ≡ SESSION → part 49 33 x′ ≡ part 49 33 x
-  pub managed= : kind x ≡ SESSION → managed x′ ≡ managed x
+  pub id= : part 16 idWidth x′ ≡ part 16 idWidth x
+  pub client= : kind x ≡ SESSION → part 49 idWidth x′ ≡ part 49 idWidth x
+  pub managed= : kind x ≡ SESSION → keyManagement x′ ≡ keyManagement x
   pub next≤ : kind x ≡ SESSION → nextObject x ≤ nextObject x′
   pub stays-closed : kind x ≡ SESSION → state x ≡ CLOSED → state x′ ≡ CLOSED
   pub policy= : kind x ≡ POLICY → x′ ≡ x
@@ -51,7 +52,7 @@ module _ (touched : ℕ → Bool)
     (x x′ : Rec) (same : Same touched x x′) (head : touched 0 ≡ false) (sess : hit touched 8 4 ≡ false) (name : hit touched 16 33 ≡ false) where
   -- what the record's kind asks besides
   made : (own x ≤ own x′) → (kind x ≤ PENDING → own x′ ≡ own x)
-      → (kind x ≡ SESSION → (part 49 33 x′ ≡ part 49 33 x) × (managed x′ ≡ managed x) × (nextObject x ≤ nextObject x′) × (state x ≡ CLOSED → state x′ ≡ CLOSED))
+      → (kind x ≡ SESSION → (part 49 idWidth x′ ≡ part 49 idWidth x) × (keyManagement x′ ≡ keyManagement x) × (nextObject x ≤ nextObject x′) × (state x ≡ CLOSED → state x′ ≡ CLOSED))
       → (kind x ≡ POLICY → x′ ≡ x)
       → (kind x ≡ KEY → (parent x′ ≡ parent x) × (deleteProtection x′ ≡ deleteProtection x))
       → (kind x ≡ PENDING → (operation x′ ≡ operation x) × (parent x′ ≡ 0))

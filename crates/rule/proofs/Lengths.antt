@@ -6,9 +6,9 @@ use Prim.Native.Nat.{ℕ}
 use lib.ListN.{length}
 use Rattle.paper.specs.Form.{Rec, _==_, only}
 use Rattle.paper.specs.Records.{bears, deleteProtection, parent, zeros}
-use Rattle.paper.specs.Calls.{method, subject, create, isSessionCall, typed, typedNew}
+use Rattle.paper.specs.Calls.{method, subject, createIn, isSessionCall, typed, typedNew}
 use Rattle.paper.specs.Pin.{Verdict, locked, wrong, right, pinCheck, pukCheck, pinMissed, pinHit, pukMissed, pukHit}
-use Rattle.paper.specs.Closing.{one, none as nobody, effect, closing}
+use Rattle.paper.specs.Closing.{one, noKeys as nobody, effect, closing}
 use Rattle.paper.specs.Act.{Out, plain, Act, refuse, inside, close, placed, fitsIn, wiped, perform}
 use Rattle.paper.specs.Posting.{target}
 use Rattle.paper.specs.Sessions.{createFaults, counted, createSession}
@@ -54,7 +54,7 @@ module _ (rs : List Rec) where
     create-length : Same (createSession c chip rs)
     unfolding createSession
     create-length =
-        settled Same (createFaults c chip (create c chip) rs) (λ n. plain n rs) _ (λ n. refl)
+        settled Same (createFaults c chip (createIn c chip) rs) (λ n. plain n rs) _ (λ n. refl)
         (λ g. length-insert _ (map counted rs) ∙ length-map counted rs)
 
     delete-length : Same (deleteKey c chip rs)

@@ -12,7 +12,7 @@ use borrow.Author.Tests.{eqb-true, eq-eqb}
 use Rattle.paper.specs.Form.{Rec, Form, _==_, _=<_, no, _and_, _or_, each, some, test, Fact, only}
 use Rattle.paper.specs.Records.{records, kind, KEY, PENDING, own, session, parent, operation, sessionOf, is, bears, zeros}
 use Rattle.paper.specs.Sound.{hasHandle}
-use Rattle.paper.specs.Closing.{Keys, none, one, held, holds, hasKey, sealed, closing, effect, goes, policyGoes, pendingOn, isPending, lowest, freed, carried, carryOut, sealAll, closedLiterally}
+use Rattle.paper.specs.Closing.{Keys, noKeys, one, held, holds, hasKey, sealed, closing, effect, goes, policyGoes, pendingOn, isPending, lowest, freed, carried, carryOut, sealAll, closedLiterally}
 use Rattle.paper.specs.Answer.{isOpen}
 use Rattle.paper.proofs.Forms.{both, cases, contrary}
 use Rattle.laws.proofs.Choice.{choose, only-is, only-in, only-out}
@@ -113,19 +113,19 @@ count-less p p′ (x ∷ xs) h q m a b = go (List·Memᴰ·cases-cons m) (λ w. 
 -- ---- the stages
 
 -- nothing removed and nothing unlocked
-effect-nothing : (rs : List Rec) (x : Rec) → effect none none rs x ≡ x
-effect-nothing rs x = effect-none none none rs x off (λ i. contrary (sym (i .1))) (λ (k, (p, m, (a, (b, (c, (y, l, w)))))). contrary (sym (w .0 .1))) unmarked
+effect-nothing : (rs : List Rec) (x : Rec) → effect noKeys noKeys rs x ≡ x
+effect-nothing rs x = effect-none noKeys noKeys rs x off (λ i. contrary (sym (i .1))) (λ (k, (p, m, (a, (b, (c, (y, l, w)))))). contrary (sym (w .0 .1))) unmarked
   where
-    policy-stays : (y : Rec) → Fact (policyGoes none rs y) → ⊥
+    policy-stays : (y : Rec) → Fact (policyGoes noKeys rs y) → ⊥
     policy-stays y (k, ((z, m, p), n)) = contrary (sym (p .1 .1))
 
-    off : Fact (goes none rs x) → ⊥
+    off : Fact (goes noKeys rs x) → ⊥
     off (inl g) = contrary (sym (g .1))
     off (inr (inl g)) = policy-stays x g
     off (inr (inr (inl (k, ((z, m, p), n))))) = policy-stays z (p .1)
     off (inr (inr (inr (k, (c, ((z, m, p), n)))))) = contrary (sym (p .1 .1))
 
-    unmarked : Fact (pendingOn none x or pendingOn none x) → ⊥
+    unmarked : Fact (pendingOn noKeys x or pendingOn noKeys x) → ⊥
     unmarked (inl g) = contrary (sym (g .1))
     unmarked (inr g) = contrary (sym (g .1))
 
@@ -146,7 +146,7 @@ module _ (rs : List Rec) (F : Facts rs) (whole : Whole rs) (a : ℕ) (oa : Fact 
     inD : (k : ℕ) → D k ≡ true → holds a 50 rs k ≡ true
     inU : (k : ℕ) → U k ≡ true → holds a 51 rs k ≡ true
 
-  start : Stage none none (λ x. x)
+  start : Stage noKeys noKeys (λ x. x)
   start = record { out = λ x m n. sym (effect-nothing rs x); mine = λ x m e. inl refl; inD = λ k e. contrary (sym e); inU = λ k e. contrary (sym e) }
 
   module _ (D U : Keys) (h : Rec → Rec) (S : Stage D U h) where
@@ -410,7 +410,7 @@ module _ (rs : List Rec) (F : Facts rs) (whole : Whole rs) (a : ℕ) (oa : Fact 
       -- what q asks for, as keys removed and keys unlocked
       by : (d u : Keys) → ((k : ℕ) → d k ≡ true → (k ≡ parent q) × (operation q ≡ 50)) → ((k : ℕ) → u k ≡ true → (k ≡ parent q) × (operation q ≡ 51))
           → (operation q ≡ 50 → d (parent q) ≡ true) → (operation q ≡ 51 → u (parent q) ≡ true)
-          → cond (eqb (operation q) 50) (effect (one (parent q)) none left) (effect none (one (parent q)) left) ≡ effect d u left
+          → cond (eqb (operation q) 50) (effect (one (parent q)) noKeys left) (effect noKeys (one (parent q)) left) ≡ effect d u left
           → sealAll a (carryOut n a (carried q (map h rs))) ≡ map (closing a rs) rs
       by d u on-d on-u has-d has-u e =
           ap (λ (l : List Rec). sealAll a (carryOut n a l)) same-list
@@ -424,8 +424,8 @@ module _ (rs : List Rec) (F : Facts rs) (whole : Whole rs) (a : ℕ) (oa : Fact 
           same-list = ap (λ (f : Rec → Rec). map f left) e ∙ map-map (effect d u left) free′ (map h rs) ∙ map-map (λ x. effect d u left (free′ x)) h rs
 
       go : (operation q ≡ 50) ⊎ (operation q ≡ 51) → sealAll a (carryOut n a (carried q (map h rs))) ≡ map (closing a rs) rs
-      go (inl o) = by (one (parent q)) none (λ k e. (eqb-true k (parent q) e, o)) (λ k e. contrary (sym e)) (λ i. eq-eqb (parent q) (parent q) refl) (λ i. absurd (omega arith)) (rw o)
-      go (inr o) = by none (one (parent q)) (λ k e. contrary (sym e)) (λ k e. (eqb-true k (parent q) e, o)) (λ i. absurd (omega arith)) (λ i. eq-eqb (parent q) (parent q) refl) (rw o)
+      go (inl o) = by (one (parent q)) noKeys (λ k e. (eqb-true k (parent q) e, o)) (λ k e. contrary (sym e)) (λ i. eq-eqb (parent q) (parent q) refl) (λ i. absurd (omega arith)) (rw o)
+      go (inr o) = by noKeys (one (parent q)) (λ k e. contrary (sym e)) (λ k e. (eqb-true k (parent q) e, o)) (λ i. absurd (omega arith)) (λ i. eq-eqb (parent q) (parent q) refl) (rw o)
 
   carry : (n : ℕ) → Onward n
   unfolding carryOut
@@ -451,7 +451,7 @@ map-self (x ∷ rs) = ap (λ (l : List Rec). x ∷ l) (map-self rs)
 pub literally : Literally
 unfolding closedLiterally
 literally s a e o = sym (ap (λ (l : List Rec). sealAll a (carryOut (length rs) a l)) (sym (map-self rs))
-    ∙ carry rs F (whole-records s) a o (length rs) none none (λ x. x) (start rs F (whole-records s) a o) (count-most (λ x. test (isPending a x)) rs))
+    ∙ carry rs F (whole-records s) a o (length rs) noKeys noKeys (λ x. x) (start rs F (whole-records s) a o) (count-most (λ x. test (isPending a x)) rs))
   where
     rs : List Rec
     rs = records s

@@ -10,16 +10,16 @@ use lib.Dec.{lit≤, lit<}
 use borrow.Author.Tests.{eq-eqb}
 use Rattle.hmac.specs.Same.{same}
 use Rattle.hmac.proofs.Sameness.{same-eq}
-use Rattle.paper.specs.Limits.{longestPin, longestPublicKey, lastFormat, lastGrouping, lastPatterns, lastProtection, mostObjects}
-use Rattle.paper.specs.Bytes.{byte, four, part, padded, zerosOf, stringAt, behind, allWithin}
+use Rattle.paper.specs.Limits.{longestPin, longestPublicKey, lastFormat, lastGrouping, lastPatterns, lastProtection, mostObjects, pinWidth}
+use Rattle.paper.specs.Bytes.{byte, four, part, paddedText, zerosOf, stringAt, behind, allWithin}
 use Rattle.paper.specs.Table.{isBlank}
 use Rattle.paper.specs.Form.{Rec, _==_, _=<_, say, _and_, some, Fact}
-use Rattle.paper.specs.Records.{kind, SESSION, PUK, POLICY, KEY, own, session, parent, at, block, is, nextObject, macCounter, keyLimit, grouping, value}
-use Rattle.paper.specs.Sound.{governs, there}
+use Rattle.paper.specs.Records.{byValue, kind, SESSION, PUK, POLICY, KEY, own, session, parent, at, block, is, nextObject, macCounter, keyLimit, grouping, value}
+use Rattle.paper.specs.Sound.{governs, isIn}
 use Rattle.paper.specs.Text.{pinFits}
-use Rattle.paper.specs.Calls.{subject, idAt, behindId, puk, pukForm, policy, policyForm, Key, key, keyForm, seedAt, policyAt, friendlyAt, keyAlgorithmAt, parametersAt}
+use Rattle.paper.specs.Calls.{subject, idAt, behindId, pukIn, pukForm, policyIn, policyForm, Key, keyIn, keyForm, seedAt, policyAt, friendlyAt, keyAlgorithmAt, parametersAt}
 use Rattle.paper.specs.Act.{Act, refuse, perform}
-use Rattle.paper.specs.Objects.{notThere, pukFaults, makePuk, pukRecord, policyFaults, makePolicy, policyRecord, pinOf, unlike, unprotected, breaksRule, keyFaults, makeKey, keyRecord}
+use Rattle.paper.specs.Objects.{notThere, pukFaults, makePuk, pukRecord, policyFaults, makePolicy, policyRecord, pinOf, unlike, unprotected, breaksRule, keyFaults, makeKey, keyRecord, makePolicyBy, makeKeyBy, makePukBy}
 use Rattle.paper.specs.Answer.{isOpen}
 use Rattle.paper.proofs.Forms.{settled, cases}
 use Rattle.laws.proofs.Choice.{holds}
@@ -57,62 +57,62 @@ module _ (c chip : List ℕ) (bytes : allWithin 0 255 c ≡ true) (rs : List Rec
   -- ---- 8
 
   pub puk-kept : Kept (makePuk c chip blk)
-  unfolding makePuk
+  unfolding makePukBy
   puk-kept =
-      settled Kept (pukFaults c chip (puk c chip) ses blk) refuse _ (refuse-kept s rs F O) (λ g.
+      settled Kept (pukFaults c chip (pukIn c chip) (pukIn c chip .value) (byValue ses) blk) refuse _ (refuse-kept s rs F O) (λ g.
       let w = holds (pukForm c chip) (search) in
       let e = w .1 .1 .0 in
       let b = behind-is (behindId c) c in
       let I = named-of c (w .0) (omega arith) in
-      let f = holds (puk c chip .format =< lastFormat) (search) in
+      let f = holds (pukIn c chip .format =< lastFormat) (search) in
       let R = ready s rs F O 1 (holds (nextObject ses =< mostObjects) (search)) (holds (macCounter ses + 1 =< keyLimit ses) (search)) in
       let r = numbered s (nextObject ses) 1 rs F R in
       let l = small s rs F O (nextObject ses) (r .1) in
-      let H = puk-head s (puk c chip) ses l I (w .1 .1 .1 .0) (w .1 .1 .1 .1) f in
-      let name = puk-named s (puk c chip) ses l I (w .1 .1 .1 .0) (w .1 .1 .1 .1) f in
-      made s rs F O _ _ 1 (pukRecord s (puk c chip) ses) R
-      (sprout-puk s (nextObject ses) rs (r .0) (r .1) (pukRecord s (puk c chip) ses) H (puk-errors s (puk c chip) ses l I (w .1 .1 .1 .0) (w .1 .1 .1 .1) f)
-      (unnamed s rs F O (puk c chip .id) (I .1) (search) (pukRecord s (puk c chip) ses) name)))
+      let H = puk-head s (pukIn c chip) (pukIn c chip .value) (byValue ses) l I (w .1 .1 .1 .0) (w .1 .1 .1 .1) f in
+      let name = puk-named s (pukIn c chip) (pukIn c chip .value) (byValue ses) l I (w .1 .1 .1 .0) (w .1 .1 .1 .1) f in
+      made s rs F O _ _ 1 (pukRecord s (pukIn c chip) (pukIn c chip .value) (byValue ses)) R
+      (sprout-puk s (nextObject ses) rs (r .0) (r .1) (pukRecord s (pukIn c chip) (pukIn c chip .value) (byValue ses)) H (puk-errors s (pukIn c chip) (pukIn c chip .value) (byValue ses) l I (w .1 .1 .1 .0) (w .1 .1 .1 .1) f)
+      (unnamed s rs F O (pukIn c chip .id) (I .1) (search) (pukRecord s (pukIn c chip) (pukIn c chip .value) (byValue ses)) name)))
 
   -- ---- a policy that is named is found among the session's records
 
-  found : (k h : ℕ) → 1 ≤ k → (Fact (notThere k (at k h s blk) h) → ⊥) → (h ≡ 0 → ⊥) → Fact (there rs k h s)
+  found : (k h : ℕ) → 1 ≤ k → (Fact (notThere k (at k h s blk) h) → ⊥) → (h ≡ 0 → ⊥) → Fact (isIn rs k h s)
   found k h l n z = let w = at-byte k h s blk 0 (λ q. n (z, λ e. omega arith)) in (w .0, block-out s rs (w .1) .0, w .2)
 
   -- ---- 9
 
   pub policy-kept : Kept (makePolicy c chip blk)
-  unfolding makePolicy
+  unfolding makePolicyBy
   policy-kept =
-      settled Kept (policyFaults c chip (policy c) (at PUK (policy c .puk) s blk) ses blk) refuse _ (refuse-kept s rs F O) (λ g.
+      settled Kept (policyFaults c chip (policyIn c) (at PUK (policyIn c .puk) s blk) (byValue ses) blk) refuse _ (refuse-kept s rs F O) (λ g.
       let w = holds (policyForm c chip) (search) in
       let e = w .1 .1 .1 .0 in
       let I = named-of c (w .0) (omega arith) in
-      let up : Fact (notThere PUK (at PUK (policy c .puk) s blk) (policy c .puk)) → ⊥ = search in
-      let nonzero : policy c .retry ≡ 0 → ⊥ = search in
-      let lengths = holds (1 =< policy c .shortest and policy c .shortest =< policy c .longest and policy c .longest =< longestPin) (search) in
-      let Q : PolicyRanges (policy c) =
+      let up : Fact (notThere PUK (at PUK (policyIn c .puk) s blk) (policyIn c .puk)) → ⊥ = search in
+      let nonzero : policyIn c .retry ≡ 0 → ⊥ = search in
+      let lengths = holds (1 =< policyIn c .minLength and policyIn c .minLength =< policyIn c .maxLength and policyIn c .maxLength =< longestPin) (search) in
+      let Q : PolicyRanges (policyIn c) =
       record {
-        format = holds (policy c .format =< lastFormat) (search);
-        retry = (holds (1 =< policy c .retry) (λ n. nonzero (omega arith)), most 255 c bytes (behindId c + 7));
-        grouping = holds (policy c .grouping =< lastGrouping) (search);
+        format = holds (policyIn c .format =< lastFormat) (search);
+        retry = (holds (1 =< policyIn c .retry) (λ n. nonzero (omega arith)), most 255 c bytes (behindId c + 7));
+        grouping = holds (policyIn c .grouping =< lastGrouping) (search);
         flags = (w .1 .0, w .1 .1 .0);
-        patterns = holds (policy c .patterns =< lastPatterns) (search);
+        patterns = holds (policyIn c .patterns =< lastPatterns) (search);
         lengths = (lengths .0, lengths .1 .0, lengths .1 .1);
       } in
       let R = ready s rs F O 1 (holds (nextObject ses =< mostObjects) (search)) (holds (macCounter ses + 1 =< keyLimit ses) (search)) in
       let r = numbered s (nextObject ses) 1 rs F R in
       let l = small s rs F O (nextObject ses) (r .1) in
       let a = four-most c bytes (behindId c) in
-      made s rs F O _ _ 1 (policyRecord s (policy c) ses) R
-      (sprout-policy s (nextObject ses) rs (r .0) (r .1) (policyRecord s (policy c) ses) (policy c .puk) (policy-head s (policy c) ses l a I Q) (policy-lengths s (policy c) ses l a I Q)
-      (found PUK (policy c .puk) (lit≤ tt) up)
-      (unnamed s rs F O (policy c .id) (I .1) (search) (policyRecord s (policy c) ses) (policy-named s (policy c) ses l a I Q))))
+      made s rs F O _ _ 1 (policyRecord s (policyIn c) (byValue ses)) R
+      (sprout-policy s (nextObject ses) rs (r .0) (r .1) (policyRecord s (policyIn c) (byValue ses)) (policyIn c .puk) (policy-head s (policyIn c) (byValue ses) l a I Q) (policy-lengths s (policyIn c) (byValue ses) l a I Q)
+      (found PUK (policyIn c .puk) (lit≤ tt) up)
+      (unnamed s rs F O (policyIn c .id) (I .1) (search) (policyRecord s (policyIn c) (byValue ses)) (policy-named s (policyIn c) (byValue ses) l a I Q))))
 
   -- ---- 10
 
   abbrev q : Key
-  q = key c chip
+  q = keyIn c chip
 
   abbrev pol : Rec
   pol = at POLICY (q .policy) s blk
@@ -140,20 +140,20 @@ module _ (c chip : List ℕ) (bytes : allWithin 0 255 c ≡ true) (rs : List Rec
   bare-pin : q .policy ≡ 0 → pinOf q pol ≡ []
   bare-pin z = rw (eq-eqb (q .policy) 0 z)
 
-  pin-range : (Fact (notThere POLICY pol (q .policy)) → ⊥) → (Fact (breaksRule q pol) → ⊥) → (q .policy ≡ 0 → ⊥)
+  pin-range : (Fact (notThere POLICY pol (q .policy)) → ⊥) → (Fact (breaksRule q (pinOf q pol) pol) → ⊥) → (q .policy ≡ 0 → ⊥)
       → (1 ≤ length (pinOf q pol)) × (length (pinOf q pol) ≤ longestPin)
   pin-range n b z =
       let w = policy-here n z in
       pin-length pol (F .alone pol (w .0)) (w .1) (pinOf q pol) (holds (say (pinFits pol (pinOf q pol))) (λ m. b (z, m)))
 
-  short : (Fact (notThere POLICY pol (q .policy)) → ⊥) → (Fact (breaksRule q pol) → ⊥) → length (pinOf q pol) ≤ longestPin
+  short : (Fact (notThere POLICY pol (q .policy)) → ⊥) → (Fact (breaksRule q (pinOf q pol) pol) → ⊥) → length (pinOf q pol) ≤ longestPin
   short n b = cases (q .policy == 0) (λ z. rw (bare-pin z) (lit≤ tt)) (λ z. pin-range n b z .1)
 
-  same-pin : (Fact (unlike q pol blk) → ⊥) → (y : Rec) → List·Memᴰ y rs → session y ≡ s → grouping pol ≡ 1 → Fact (governs pol y)
-      → part 49 17 y ≡ padded longestPin (pinOf q pol)
+  same-pin : (Fact (unlike (pinOf q pol) pol blk) → ⊥) → (y : Rec) → List·Memᴰ y rs → session y ≡ s → grouping pol ≡ 1 → Fact (governs pol y)
+      → part 49 pinWidth y ≡ paddedText longestPin (pinOf q pol)
   same-pin u y i t g gy =
       padded-of longestPin 0 49 y (tabled-field 8 KEY y (gy .1 .0) (F .alone y i .tabled)) (rw (long y (F .alone y i)) (lit≤ tt)) (lit< tt)
-      ∙ ap (padded longestPin)
+      ∙ ap (paddedText longestPin)
       (same-eq (value y) (pinOf q pol) (holds (say (same (value y) (pinOf q pol))) (λ m. u (g, (y, block-in s rs i t, (gy, m))))))
 
   id-ends : Fact (keyForm c chip) → behindId c ≤ length c
@@ -176,14 +176,14 @@ module _ (c chip : List ℕ) (bytes : allWithin 0 255 c ≡ true) (rs : List Rec
       (omega arith, omega arith)
 
   pub key-kept : Kept (makeKey c chip blk)
-  unfolding makeKey
+  unfolding makeKeyBy
   key-kept =
-      settled Kept (keyFaults c chip q pol ses blk) refuse _ (refuse-kept s rs F O) (λ g.
+      settled Kept (keyFaults c chip q (pinOf q pol) pol (byValue ses) blk) refuse _ (refuse-kept s rs F O) (λ g.
       let w = holds (keyForm c chip) (search) in
       let I = named-of c (w .0) (id-ends w) in
       let up : Fact (notThere POLICY pol (q .policy)) → ⊥ = search in
-      let rule : Fact (breaksRule q pol) → ⊥ = search in
-      let like : Fact (unlike q pol blk) → ⊥ = search in
+      let rule : Fact (breaksRule q (pinOf q pol) pol) → ⊥ = search in
+      let like : Fact (unlike (pinOf q pol) pol blk) → ⊥ = search in
       let guard : Fact (unprotected q pol) → ⊥ = search in
       let Q : KeyRanges q =
       record {
@@ -196,20 +196,20 @@ module _ (c chip : List ℕ) (bytes : allWithin 0 255 c ≡ true) (rs : List Rec
       let r = numbered s (nextObject ses) 2 rs F R in
       let l = small s rs F O (nextObject ses) (r .1) in
       let a = four-most c bytes (policyAt c) in
-      let n = keyRecord s q pol ses in
-      let len = key-pin-length s q pol ses l a I Q (short up rule) in
-      let del = key-protection s q pol ses l a I Q (short up rule) in
+      let n = keyRecord s q (pinOf q pol) (byValue ses) in
+      let len = key-pin-length s q (pinOf q pol) (byValue ses) l a I Q (short up rule) in
+      let del = key-protection s q (pinOf q pol) (byValue ses) l a I Q (short up rule) in
       made s rs F O _ _ 2 n R
-      (sprout-key s (nextObject ses) rs (r .0) (r .1) n (q .policy) (key-head s q pol ses l a I Q (short up rule)) (key-errors s q pol ses l a I Q (short up rule))
-      (ap isBlank (key-digest s q pol ses l a I Q (short up rule)) ∙ blank32)
+      (sprout-key s (nextObject ses) rs (r .0) (r .1) n (q .policy) (key-head s q (pinOf q pol) (byValue ses) l a I Q (short up rule)) (key-errors s q (pinOf q pol) (byValue ses) l a I Q (short up rule))
+      (ap isBlank (key-digest s q (pinOf q pol) (byValue ses) l a I Q (short up rule)) ∙ blank32)
       (λ z. (len ∙ ap length (bare-pin z), (λ d. guard (inl (sym del ∙ d, z))), λ d. guard (inr (sym del ∙ d, no-policy z))))
       (λ z d. let p = pin-range up rule z in omega arith)
       (found POLICY (q .policy) (lit≤ tt) up)
       (λ x i k e t d z. guard (inr (sym del ∙ d, sym (ap parent (is-policy x i k e t)) ∙ z)))
       (λ x y ix iy k e t g gy.
       let p = is-policy x ix k e t in
-      key-pin s q pol ses l a I Q (short up rule) ∙ sym (same-pin like y iy (gy .1 .1 .1 ∙ t) (sym (ap grouping p) ∙ g) (rw p at gy)))
-      (unnamed s rs F O (q .id) (I .1) (search) n (key-named s q pol ses l a I Q (short up rule)))))
+      key-pin s q (pinOf q pol) (byValue ses) l a I Q (short up rule) ∙ sym (same-pin like y iy (gy .1 .1 .1 ∙ t) (sym (ap grouping p) ∙ g) (rw p at gy)))
+      (unnamed s rs F O (q .id) (I .1) (search) n (key-named s q (pinOf q pol) (byValue ses) l a I Q (short up rule)))))
     where
       blank32 : isBlank (zerosOf 32) ≡ true
       blank32 = unfold allWithin in refl

@@ -4,7 +4,7 @@ use mathlib.Core.List.{List, [], _∷_}
 use Prim.Native.Nat.{ℕ, _+_, _≤_, _<_}
 use native.Mathlib.Omega.{arith}
 use lib.ListN.{length, length-append, length-replicate}
-use Rattle.paper.specs.Bytes.{byte, two, four, enc4, zerosOf, padded, stringAt}
+use Rattle.paper.specs.Bytes.{byte, two, four, enc4, zerosOf, paddedText, stringAt}
 use Rattle.paper.specs.Form.{Rec}
 use Rattle.paper.specs.Records.{kind, own, session, parent}
 use Rattle.paper.specs.Act.{flat}
@@ -49,5 +49,5 @@ unfolding stringAt
 string-short i n c h = let a = part-short (i + 2) (two i c) c in omega arith
 
 -- a string of a call in the room that a record has for it
-pub length-kept : (i n : ℕ) (c : List ℕ) → two i c ≤ n → length (padded n (stringAt i c)) ≡ n + 1
+pub length-kept : (i n : ℕ) (c : List ℕ) → two i c ≤ n → length (paddedText n (stringAt i c)) ≡ n + 1
 length-kept i n c h = let a = length-padded n (stringAt i c) (string-short i n c h) in omega arith

@@ -12,12 +12,12 @@ use lib.Dec.{eqb}
 use borrow.Author.Tests.{eqb-true}
 use Rattle.paper.specs.Bytes.{part, allWithin}
 use Rattle.paper.specs.Form.{Rec, Fact, only}
-use Rattle.paper.specs.Records.{records, SESSION, PUK, POLICY, at, block, bears, session, zeros, isFree, insert}
-use Rattle.paper.specs.Calls.{method, subject, close, puk, policy, key, path, post}
+use Rattle.paper.specs.Records.{byValue, records, SESSION, PUK, POLICY, at, block, bears, session, zeros, isFree, insert}
+use Rattle.paper.specs.Calls.{method, subject, closeIn, pukIn, policyIn, keyIn, pathIn, postIn}
 use Rattle.paper.specs.Mac.{attestation, closeAttested}
-use Rattle.paper.specs.Objects.{pukFaults, pukRecord, makePuk, policyFaults, policyRecord, makePolicy, keyFaults, keyRecord, makeKey, pathFaults, setPath}
-use Rattle.paper.specs.Posting.{Look, look, postFaults, pendingRecord, postAs, postDelete, postUnlock}
-use Rattle.paper.specs.Sessions.{closeFaults, closeSession, abortFaults, abortSession}
+use Rattle.paper.specs.Objects.{pinOf, pukFaults, pukRecord, makePuk, policyFaults, policyRecord, makePolicy, keyFaults, keyRecord, makeKey, pathFaults, setPath, makePolicyBy, makePukBy, makeKeyBy, setPathBy}
+use Rattle.paper.specs.Posting.{Look, look, postFaults, pendingRecord, postAs, postDelete, postUnlock, postBy}
+use Rattle.paper.specs.Sessions.{closeFaults, closeSession, abortFaults, abortSession, closeBy}
 use Rattle.paper.specs.Act.{Out, Act, refuse, inside, close as closes, placed, fitsIn, wiped, perform}
 use Rattle.paper.specs.Answer.{answer, step, sessionStep, sessionAct}
 use Rattle.paper.proofs.Forms.{settled, cases}
@@ -119,31 +119,31 @@ module _ (c chip : List ℕ) (bytes : allWithin 0 255 c ≡ true) (rs : List Rec
   abort-quiet = settled Quiet (abortFaults c chip) refuse _ (λ n. tt) (λ k. tt)
 
   puk-quiet : Quiet (makePuk c chip blk)
-  unfolding makePuk
-  puk-quiet = settled Quiet (pukFaults c chip (puk c chip) ses blk) refuse _ (λ n. tt) (λ k. four-of 8 (pukRecord t (puk c chip) ses) t (unfold part pukRecord in refl) small)
+  unfolding makePukBy
+  puk-quiet = settled Quiet (pukFaults c chip (pukIn c chip) (pukIn c chip .value) (byValue ses) blk) refuse _ (λ n. tt) (λ k. four-of 8 (pukRecord t (pukIn c chip) (pukIn c chip .value) (byValue ses)) t (unfold part pukRecord in refl) small)
 
   policy-quiet : Quiet (makePolicy c chip blk)
-  unfolding makePolicy
+  unfolding makePolicyBy
   policy-quiet =
-      settled Quiet (policyFaults c chip (policy c) (at PUK (policy c .puk) t blk) ses blk) refuse _ (λ n. tt) (λ k.
-      four-of 8 (policyRecord t (policy c) ses) t (unfold part policyRecord in refl) small)
+      settled Quiet (policyFaults c chip (policyIn c) (at PUK (policyIn c .puk) t blk) (byValue ses) blk) refuse _ (λ n. tt) (λ k.
+      four-of 8 (policyRecord t (policyIn c) (byValue ses)) t (unfold part policyRecord in refl) small)
 
   key-quiet : Quiet (makeKey c chip blk)
-  unfolding makeKey
+  unfolding makeKeyBy
   key-quiet =
-      let pol : Rec = at POLICY (key c chip .policy) t blk in
-      settled Quiet (keyFaults c chip (key c chip) pol ses blk) refuse _ (λ n. tt) (λ k.
-      four-of 8 (keyRecord t (key c chip) pol ses) t (unfold part keyRecord in refl) small)
+      let pol : Rec = at POLICY (keyIn c chip .policy) t blk in
+      settled Quiet (keyFaults c chip (keyIn c chip) (pinOf (keyIn c chip) pol) pol (byValue ses) blk) refuse _ (λ n. tt) (λ k.
+      four-of 8 (keyRecord t (keyIn c chip) (pinOf (keyIn c chip) pol) (byValue ses)) t (unfold part keyRecord in refl) small)
 
   path-quiet : Quiet (setPath c chip blk)
-  unfolding setPath
-  path-quiet = settled Quiet (pathFaults c chip (path c) _ ses) refuse _ (λ n. tt) (λ k. tt)
+  unfolding setPathBy
+  path-quiet = settled Quiet (pathFaults c chip (pathIn c) _ (byValue ses)) refuse _ (λ n. tt) (λ k. tt)
 
   post-quiet : (op : ℕ) (name : String) (l : Look) → Quiet (postAs op name c chip blk l)
-  unfolding postAs
+  unfolding postBy
   post-quiet op name l =
-      settled Quiet (postFaults op name c chip (post c chip) ses blk l) refuse _ (λ n. tt) (λ k.
-      four-of 8 (pendingRecord op t (post c chip .key) ses) t (unfold part pendingRecord in refl) small)
+      settled Quiet (postFaults op name c chip (postIn c chip) (byValue ses) blk l) refuse _ (λ n. tt) (λ k.
+      four-of 8 (pendingRecord op t (postIn c chip .key) (byValue ses)) t (unfold part pendingRecord in refl) small)
 
   -- a close that is refused
   abbrev Refused : Act → Type 0
@@ -157,10 +157,10 @@ module _ (c chip : List ℕ) (bytes : allWithin 0 255 c ≡ true) (rs : List Rec
   closed-zero w h i = absurd (omega arith)
 
   close-refused : Refused (closeSession c chip blk)
-  unfolding closeSession
+  unfolding closeBy
   close-refused =
-      settled Refused (closeFaults c chip (close c) ses blk) refuse (closes (attestation ses (closeAttested (close c)))) (λ n. quiet-refused (refuse n) tt)
-      (λ k. closed-zero (attestation ses (closeAttested (close c))))
+      settled Refused (closeFaults c chip (closeIn c) (byValue ses) blk) refuse (closes (attestation (byValue ses) (closeAttested (closeIn c)))) (λ n. quiet-refused (refuse n) tt)
+      (λ k. closed-zero (attestation (byValue ses) (closeAttested (closeIn c))))
 
   abbrev Calm : Act → Type 0
   Calm a = (method c ≡ 3 → 1 ≤ perform t a rs .status) → (i : ℕ) → At t rs (perform t a rs .store) i
@@ -189,4 +189,4 @@ nothing-counts s c chip reply bytes taken h left i =
     ap records (store-is s c chip reply taken) ∙ records-joined (step c chip rs .store) (λ x m. long x (F .alone x m)) in
     let w = session-step c chip rs h in
     subst (λ (xs : List Rec). At (subject c) rs xs i) (sym (e ∙ ap (λ (o : Out). o .store) w))
-    (act-calm c chip bytes rs (look (post c chip .key) rs) (λ m. subst (λ (n : ℕ). 1 ≤ n) (status-is s c chip reply taken ∙ ap (λ (o : Out). o .status) w) (left m)) i)
+    (act-calm c chip bytes rs (look (postIn c chip .key) rs) (λ m. subst (λ (n : ℕ). 1 ≤ n) (status-is s c chip reply taken ∙ ap (λ (o : Out). o .status) w) (left m)) i)

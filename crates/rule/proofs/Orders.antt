@@ -12,9 +12,9 @@ use Rattle.paper.specs.Form.{Rec, _==_, _or_, some, Fact}
 use Rattle.paper.specs.Records.{records, SESSION, state, sessionOf, at, block}
 use Rattle.paper.specs.Sound.{sound}
 use Rattle.paper.specs.Closing.{held}
-use Rattle.paper.specs.Calls.{subject, isSessionCall, known, post, postForm}
+use Rattle.paper.specs.Calls.{subject, isSessionCall, known, postIn, postForm}
 use Rattle.paper.specs.Act.{Out, Act, refuse, perform}
-use Rattle.paper.specs.Posting.{Look, look, postAs}
+use Rattle.paper.specs.Posting.{Look, look, postAs, postBy}
 use Rattle.paper.specs.Answer.{Answer, told, written, step, sessionStep, sessionAct, isOpen}
 use Rattle.paper.proofs.Forms.{both, cases, contrary}
 use Rattle.laws.proofs.Choice.{either}
@@ -39,7 +39,7 @@ use Rattle.rule.proofs.Swaps.{same-records}
 -- ---- what a call decides
 
 abbrev actOf : Call → List Rec → Act
-actOf q rs = sessionAct (q .bytes) (q .chip) (block (subject (q .bytes)) rs) (look (post (q .bytes) (q .chip) .key) rs)
+actOf q rs = sessionAct (q .bytes) (q .chip) (block (subject (q .bytes)) rs) (look (postIn (q .bytes) (q .chip) .key) rs)
 
 -- a post that is malformed, or whose key is not there, is refused whatever else it sees
 post-same : (op : ℕ) (name : String) (c chip : List ℕ) (blk : List Rec) (l l′ : Look) → (Fact (postForm c chip) → Sight l l′)
@@ -47,16 +47,16 @@ post-same : (op : ℕ) (name : String) (c chip : List ℕ) (blk : List Rec) (l l
 post-same op name c chip blk l l′ h = cases (postForm c chip) (λ f. go f (h f)) (λ n. malformed l n ∙ sym (malformed l′ n))
   where
     malformed : (l : Look) → (Fact (postForm c chip) → ⊥) → postAs op name c chip blk l ≡ refuse 16
-    malformed l n = unfold postAs in rw (false-test (postForm c chip) n)
+    malformed l n = unfold postBy in rw (false-test (postForm c chip) n)
 
     unseen : (l : Look) → Fact (postForm c chip) → l .there ≡ false → postAs op name c chip blk l ≡ refuse 7
-    unseen l f e = unfold postAs in rw (both (postForm c chip) .1 f, e)
+    unseen l f e = unfold postBy in rw (both (postForm c chip) .1 f, e)
 
     go : Fact (postForm c chip) → Sight l l′ → postAs op name c chip blk l ≡ postAs op name c chip blk l′
     go f (inl e) = ap (postAs op name c chip blk) e
     go f (inr (e, e′)) = unseen l f e ∙ sym (unseen l′ f e′)
 
-act-same : (c chip : List ℕ) (blk blk′ : List Rec) (l l′ : Look) → Fact (isSessionCall c) → blk ≡ blk′ → (Asking c chip (post c chip .key) → Sight l l′)
+act-same : (c chip : List ℕ) (blk blk′ : List Rec) (l l′ : Look) → Fact (isSessionCall c) → blk ≡ blk′ → (Asking c chip (postIn c chip .key) → Sight l l′)
     → sessionAct c chip blk l ≡ sessionAct c chip blk′ l′
 unfolding sessionAct
 act-same c chip blk blk′ l l′ (inl i) e h = rw (i, e)
@@ -255,7 +255,7 @@ module _ (s : List ℕ) (p q : Call) (X : Apart s (subject (p .bytes)) (subject 
       (sym (block-a rs a b wp wq two B tB)) seen)
     where
       k : ℕ
-      k = post (p .bytes) (p .chip) .key
+      k = postIn (p .bytes) (p .chip) .key
 
       seen : wp k → Sight (look k rs) (look k (outcome b B rs))
       seen w = cases (k == 0)

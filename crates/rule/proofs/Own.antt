@@ -7,8 +7,8 @@ use native.Mathlib.Omega.{arith}
 use lib.ListN.{length}
 use lib.Dec.{lit≤, lit<}
 use Rattle.hmac.proofs.Sameness.{eq-same}
-use Rattle.paper.specs.Limits.{mostObjects, longestId}
-use Rattle.paper.specs.Bytes.{part, padded}
+use Rattle.paper.specs.Limits.{mostObjects, longestId, idWidth}
+use Rattle.paper.specs.Bytes.{part, paddedText}
 use Rattle.paper.specs.Form.{Rec, Fact, only}
 use Rattle.paper.specs.Records.{kind, SESSION, OPEN, own, session, id, at, block, bears, state, nextObject, macCounter, keyLimit}
 use Rattle.paper.specs.Sound.{hasId}
@@ -84,7 +84,7 @@ module _ (s : ℕ) (rs : List Rec) (F : Facts rs) (O : Fact (isOpen s rs)) where
   made h t used n R S = inside-kept h t (advance s 1 used) (just n) (sprouted s (nextObject ses) used rs F R n S)
 
   -- an ID that is not taken is not borne
-  pub unnamed : (v : List ℕ) → length v ≤ longestId → (Fact (taken v blk) → ⊥) → (n : Rec) → part 16 33 n ≡ padded longestId v
-      → (x : Rec) → List·Memᴰ x rs → Fact (hasId x) → session x ≡ s → part 16 33 x ≡ part 16 33 n → ⊥
+  pub unnamed : (v : List ℕ) → length v ≤ longestId → (Fact (taken v blk) → ⊥) → (n : Rec) → part 16 idWidth n ≡ paddedText longestId v
+      → (x : Rec) → List·Memᴰ x rs → Fact (hasId x) → session x ≡ s → part 16 idWidth x ≡ part 16 idWidth n → ⊥
   unnamed v l free n e x i k t q =
       free (x, block-in s rs i t, (k, eq-same (id x) v (text-of 16 longestId x v (q ∙ e) l (lit< tt) (rw (long x (F .alone x i)) (lit≤ tt)))))

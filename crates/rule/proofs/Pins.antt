@@ -8,10 +8,10 @@ use native.Mathlib.Omega.{arith}
 use lib.ListN.{length}
 use Rattle.hmac.specs.Same.{same}
 use Rattle.hmac.proofs.Sameness.{eq-same}
-use Rattle.paper.specs.Limits.{longestPin}
-use Rattle.paper.specs.Bytes.{part, padded, within}
+use Rattle.paper.specs.Limits.{longestPin, pinWidth}
+use Rattle.paper.specs.Bytes.{part, paddedText, within}
 use Rattle.paper.specs.Form.{Rec, Form, _==_, _and_, some, Fact, only}
-use Rattle.paper.specs.Records.{kind, POLICY, KEY, PENDING, own, session, parent, at, grouping, format, patterns, shortest, longest}
+use Rattle.paper.specs.Records.{kind, POLICY, KEY, PENDING, own, session, parent, at, grouping, format, patterns, minLength, maxLength}
 use Rattle.paper.specs.Sound.{governs}
 use Rattle.paper.specs.Text.{pinFits, formatFits, patternFits}
 use Rattle.paper.specs.Pin.{pinHit}
@@ -33,9 +33,9 @@ use Rattle.rule.proofs.Counts.{stale-kept, pin-hit-kept}
 pub pin-length : (p : Rec) → Alone p → kind p ≡ POLICY → (v : List ℕ) → pinFits p v ≡ true → (1 ≤ length v) × (length v ≤ longestPin)
 unfolding pinFits
 pin-length p A k v e =
-    let w = within-of (shortest p) (longest p) (length v) (split (within (shortest p) (longest p) (length v)) (formatFits (format p) v && patternFits (patterns p) v) e .0) in
-    let a = within-of 1 longestPin (shortest p) (tabled-field 11 POLICY p k (A .tabled)) in
-    let b = within-of 1 longestPin (longest p) (tabled-field 12 POLICY p k (A .tabled)) in
+    let w = within-of (minLength p) (maxLength p) (length v) (split (within (minLength p) (maxLength p) (length v)) (formatFits (format p) v && patternFits (patterns p) v) e .0) in
+    let a = within-of 1 longestPin (minLength p) (tabled-field 11 POLICY p k (A .tabled)) in
+    let b = within-of 1 longestPin (maxLength p) (tabled-field 12 POLICY p k (A .tabled)) in
     (omega arith, omega arith)
 
 module _ (rs : List Rec) (F : Facts rs) (k s : ℕ) where
@@ -65,18 +65,18 @@ module _ (rs : List Rec) (F : Facts rs) (k s : ℕ) where
       has-policy : (r : Rec) → List·Memᴰ r rs → Fact (group r) → parent r ≡ 0 → ⊥
       has-policy r m p z = pinned (sym (group-policy r m p .0) ∙ z)
 
-      in-group : (r : Rec) → List·Memᴰ r rs → Fact (group r) → part 49 17 (only group (newPin v) r) ≡ padded longestPin v
-      in-group r m p = ap (part 49 17) (only-in group (newPin v) r p) ∙ now-pin r (F .alone r m) v least most (group-key r p) (has-policy r m p)
+      in-group : (r : Rec) → List·Memᴰ r rs → Fact (group r) → part 49 pinWidth (only group (newPin v) r) ≡ paddedText longestPin v
+      in-group r m p = ap (part 49 pinWidth) (only-in group (newPin v) r p) ∙ now-pin r (F .alone r m) v least most (group-key r p) (has-policy r m p)
 
       alike : (p y z : Rec) → List·Memᴰ p rs → List·Memᴰ y rs → List·Memᴰ z rs → grouping p ≡ 1 → Fact (governs p y) → Fact (governs p z)
-          → same (part 49 17 (only group (newPin v) y)) (part 49 17 (only group (newPin v) z)) ≡ true
+          → same (part 49 pinWidth (only group (newPin v) y)) (part 49 pinWidth (only group (newPin v) z)) ≡ true
       alike p y z mp my mz g gy gz = cases (own p == parent x and session p == session x)
           (λ w.
           let f = policy-found in
           let kp = f .1 .0 in
           let kq = gy .0 in
           let i = unique rs F p pol mp (f .0) (omega arith, omega arith) (omega arith, omega arith) (w .0 ∙ sym (f .1 .1 .0)) in
-          eq-same (part 49 17 (only group (newPin v) y)) (part 49 17 (only group (newPin v) z))
+          eq-same (part 49 pinWidth (only group (newPin v) y)) (part 49 pinWidth (only group (newPin v) z))
           (in-group y my (inr (rw i at g, rw i at gy)) ∙ sym (in-group z mz (inr (rw i at g, rw i at gz)))))
           (λ n. rw (out y my gy n, out z mz gz n) (F .shares p mp y my z mz (gy .0) g gy gz))
         where

@@ -8,12 +8,12 @@ use native.Mathlib.Omega.{arith}
 use Rattle.paper.specs.Limits.{mostObjects}
 use Rattle.paper.specs.Bytes.{allWithin}
 use Rattle.paper.specs.Form.{Rec, _==_, _=<_, say, no, _and_, some, Fact}
-use Rattle.paper.specs.Records.{kind, SESSION, KEY, PENDING, own, session, parent, sessionOf, at, block, state, managed, nextObject, macCounter, keyLimit, isStale}
-use Rattle.paper.specs.Sound.{there}
+use Rattle.paper.specs.Records.{byValue, kind, SESSION, KEY, PENDING, own, session, parent, sessionOf, at, block, state, keyManagement, nextObject, macCounter, keyLimit, isStale}
+use Rattle.paper.specs.Sound.{isIn}
 use Rattle.paper.specs.Closing.{held}
-use Rattle.paper.specs.Calls.{subject, post}
+use Rattle.paper.specs.Calls.{subject, postIn}
 use Rattle.paper.specs.Act.{Act, refuse, perform}
-use Rattle.paper.specs.Posting.{target, home, isTarget, Look, look, postFaults, pendingRecord, postAs}
+use Rattle.paper.specs.Posting.{target, home, isTarget, Look, look, postFaults, pendingRecord, postAs, postBy}
 use Rattle.paper.specs.Answer.{isOpen}
 use Rattle.paper.proofs.Forms.{both, settled}
 use Rattle.laws.proofs.Choice.{holds}
@@ -34,9 +34,9 @@ look-there : (k : ℕ) (rs : List Rec) → look k rs .there ≡ true → Fact (i
 unfolding look
 look-there k rs e = both (isTarget k rs) .0 e
 
-look-managed : (k : ℕ) (rs : List Rec) → look k rs .managed ≡ true → managed (home k rs) ≡ 1
+look-managed : (k : ℕ) (rs : List Rec) → look k rs .managed ≡ true → keyManagement (home k rs) ≡ 1
 unfolding look
-look-managed k rs e = both (managed (home k rs) == 1) .0 e
+look-managed k rs e = both (keyManagement (home k rs) == 1) .0 e
 
 look-pinned : (k : ℕ) (rs : List Rec) → look k rs .pinned ≡ true → parent (target k rs) ≡ 0 → ⊥
 unfolding look
@@ -53,7 +53,7 @@ module _ (c chip : List ℕ) (bytes : allWithin 0 255 c ≡ true) (rs : List Rec
   ses = at SESSION s s blk
 
   abbrev k : ℕ
-  k = post c chip .key
+  k = postIn c chip .key
 
   abbrev l : Look
   l = look k rs
@@ -90,9 +90,9 @@ module _ (c chip : List ℕ) (bytes : allWithin 0 255 c ≡ true) (rs : List Rec
         holds (isStale x == 0) (λ n. a-handle (sym e ∙ t (omega arith)))
 
   pub post-kept : (op : ℕ) (name : String) → 50 ≤ op → op ≤ 51 → Kept (postAs op name c chip blk l)
-  unfolding postAs
+  unfolding postBy
   post-kept op name lo hi =
-      settled Kept (postFaults op name c chip (post c chip) ses blk l) refuse _ (refuse-kept s rs F O) (λ g.
+      settled Kept (postFaults op name c chip (postIn c chip) (byValue ses) blk l) refuse _ (refuse-kept s rs F O) (λ g.
       let T = look-there k rs (holds (say (l .there)) (search)) in
       let M = look-managed k rs (holds (say (l .managed)) (search)) in
       let once : Fact (some blk (held s k)) → ⊥ = search in
@@ -101,13 +101,13 @@ module _ (c chip : List ℕ) (bytes : allWithin 0 255 c ≡ true) (rs : List Rec
       let r = numbered s (nextObject ses) 1 rs F R in
       let a = small s rs F O (nextObject ses) (r .1) in
       let b = four-most c bytes 5 in
-      let n = pendingRecord op s k ses in
+      let n = pendingRecord op s k (byValue ses) in
       let t = key-here T in
       made s rs F O _ _ 1 n R
-      (sprout-pending s (nextObject ses) rs (r .0) (r .1) n k (pending-head op s k ses a b lo hi) (a-handle T) (pending-mark op s k ses a b lo hi)
+      (sprout-pending s (nextObject ses) rs (r .0) (r .1) n k (pending-head op s k (byValue ses) a b lo hi) (a-handle T) (pending-mark op s k (byValue ses) a b lo hi)
       (target k rs, t .0, t .1)
       (λ x i j e f z.
-      look-pinned k rs (holds (say (l .pinned)) (λ m. pin (sym (pending-operation op s k ses a b lo hi) ∙ f, m)))
+      look-pinned k rs (holds (say (l .pinned)) (λ m. pin (sym (pending-operation op s k (byValue ses) a b lo hi) ∙ f, m)))
       (ap parent (sym (is-key T x i j e)) ∙ z))
-      (λ x i j e. let h = is-home T x i j e in (ap state h ∙ T .1, ap managed h ∙ M))
+      (λ x i j e. let h = is-home T x i j e in (ap state h ∙ T .1, ap keyManagement h ∙ M))
       (λ x i j e f. once (x, block-in s rs i e, (j, (e, (not-stale T x i j f, f)))))))

@@ -13,7 +13,7 @@ use Rattle.paper.specs.Bytes.{enc4, over}
 use Rattle.paper.specs.Form.{Rec, Form, say, no, _and_, test, Fact, only, Fault, _gives_, settle}
 use Rattle.paper.specs.Records.{records, joined, bears, zeros, parent, deleteProtection, handle, nextSession, insert}
 use Rattle.paper.specs.Sound.{sound, lengthFits}
-use Rattle.paper.specs.Calls.{method, subject, isSessionCall, isUserCall, known, create, typed, typedNew}
+use Rattle.paper.specs.Calls.{method, subject, isSessionCall, isUserCall, known, createIn, typed, typedNew}
 use Rattle.paper.specs.Pin.{Verdict, locked, wrong, right, pinCheck, pukCheck, pinMissed, pinHit, pukMissed, pukHit}
 use Rattle.paper.specs.Posting.{target}
 use Rattle.paper.specs.Users.{policyOf, pukOf, tried, removed, unlocked, deleteFaults, deleteKey, unlockFaults, unlockKey, changeFaults, changed, changePin, useFaults, useKey}
@@ -148,7 +148,7 @@ done-still o rs e = ((λ h. absurd (omega arith)), λ h. absurd (omega arith))
 create-still : (c chip : List ℕ) (rs : List Rec) → Still rs (createSession c chip rs)
 unfolding createSession
 create-still c chip rs =
-    settled (Still rs) (createFaults c chip (create c chip) rs) (λ n. plain n rs) made (λ n. still n rs) (λ k. done-still made rs refl)
+    settled (Still rs) (createFaults c chip (createIn c chip) rs) (λ n. plain n rs) made (λ n. still n rs) (λ k. done-still made rs refl)
   where
     made : Out
     made =
@@ -156,7 +156,7 @@ create-still c chip rs =
           status = 0;
           handle = handle (nextSession (counter rs)) 0;
           attestation = noAttestation;
-          store = insert (sessionRecord (handle (nextSession (counter rs)) 0) (create c chip)) (map counted rs);
+          store = insert (sessionRecord (handle (nextSession (counter rs)) 0) (createIn c chip)) (map counted rs);
         }
 
 -- a user call: refused, the store stays but for one count

@@ -10,13 +10,13 @@ use lib.Dec.{lit≤}
 use Rattle.sha256.specs.Sha256.{SHA256}
 use Rattle.paper.specs.Bytes.{allWithin}
 use Rattle.paper.specs.Form.{Rec, _==_, _=<_, Fact, only}
-use Rattle.paper.specs.Records.{SESSION, POLICY, KEY, at, block, is, macCounter, keyLimit, pathSet, zeros}
+use Rattle.paper.specs.Records.{byValue, SESSION, POLICY, KEY, at, block, is, macCounter, keyLimit, pathSet, zeros}
 use Rattle.paper.specs.Sound.{child}
-use Rattle.paper.specs.Calls.{method, subject, post, close, path}
+use Rattle.paper.specs.Calls.{method, subject, postIn, closeIn, pathIn}
 use Rattle.paper.specs.Act.{Act, refuse, close as closes, perform, noAttestation, advance}
-use Rattle.paper.specs.Objects.{pathFaults, certified, setPath, makePuk, makePolicy, makeKey}
+use Rattle.paper.specs.Objects.{pathFaults, certified, setPath, makePuk, makePolicy, makeKey, setPathBy}
 use Rattle.paper.specs.Posting.{look, postDelete, postUnlock}
-use Rattle.paper.specs.Sessions.{unfit, closeFaults, closeSession, abortFaults, abortSession}
+use Rattle.paper.specs.Sessions.{unfit, closeFaults, closeSession, abortFaults, abortSession, closeBy}
 use Rattle.paper.specs.Answer.{isOpen, sessionAct, sessionStep}
 use Rattle.paper.proofs.Forms.{settled}
 use Rattle.laws.proofs.Choice.{choose, holds}
@@ -49,12 +49,12 @@ module _ (c chip : List ℕ) (bytes : allWithin 0 255 c ≡ true) (rs : List Rec
   -- ---- 12
 
   set-kept : Kept (setPath c chip blk)
-  unfolding setPath
+  unfolding setPathBy
   set-kept =
-      settled Kept (pathFaults c chip (path c) (at KEY (path c .key) s blk) ses) refuse _ (refuse-kept s rs F O) (λ g.
+      settled Kept (pathFaults c chip (pathIn c) (at KEY (pathIn c .key) s blk) (byValue ses)) refuse _ (refuse-kept s rs F O) (λ g.
       let left = holds (macCounter ses + 1 =< keyLimit ses) (search) in
-      inside-kept s rs F O 0 noAttestation (λ r. only (is KEY (path c .key) s) (certified (SHA256 (path c .first))) (advance s 0 1 r)) none
-      (path-kept (path c .key) s (SHA256 (path c .first)) (length-hash (path c .first)) rs F (λ x i k e.
+      inside-kept s rs F O 0 noAttestation (λ r. only (is KEY (pathIn c .key) s) (certified (SHA256 (pathIn c .first))) (advance s 0 1 r)) none
+      (path-kept (pathIn c .key) s (SHA256 (pathIn c .first)) (length-hash (pathIn c .first)) rs F (λ x i k e.
       let r = next-range x (F .alone x i) k in
       (omega arith, rw (me s rs F O x i k e) left))))
 
@@ -80,9 +80,9 @@ module _ (c chip : List ℕ) (bytes : allWithin 0 255 c ≡ true) (rs : List Rec
   closes-kept t G = close-kept s rs F G (some-number s rs F O) (opened s rs F O)
 
   shut-kept : Kept (closeSession c chip blk)
-  unfolding closeSession
+  unfolding closeBy
   shut-kept =
-      settled Kept (closeFaults c chip (close c) ses blk) refuse _ (refuse-kept s rs F O) (λ g.
+      settled Kept (closeFaults c chip (closeIn c) (byValue ses) blk) refuse _ (refuse-kept s rs F O) (λ g.
       let left = holds (macCounter ses + 2 =< keyLimit ses) (search) in
       let n : Fact (unfit blk) → ⊥ = search in
       closes-kept _ (fit left n))
@@ -104,5 +104,5 @@ module _ (c chip : List ℕ) (bytes : allWithin 0 255 c ≡ true) (rs : List Rec
       choose Kept (method c == 9) (makePolicy c chip blk) _ (λ e. policy-kept c chip bytes rs F O) (λ n9.
       choose Kept (method c == 10) (makeKey c chip blk) _ (λ e. key-kept c chip bytes rs F O) (λ n10.
       choose Kept (method c == 12) (setPath c chip blk) _ (λ e. set-kept) (λ n12.
-      choose Kept (method c == 50) (postDelete c chip blk (look (post c chip .key) rs)) (postUnlock c chip blk (look (post c chip .key) rs))
+      choose Kept (method c == 50) (postDelete c chip blk (look (postIn c chip .key) rs)) (postUnlock c chip blk (look (postIn c chip .key) rs))
       (λ e. post-kept c chip bytes rs F O 50 "postDeleteKey" (lit≤ tt) (lit≤ tt)) (λ n50. post-kept c chip bytes rs F O 51 "postUnlockKey" (lit≤ tt) (lit≤ tt))))))))

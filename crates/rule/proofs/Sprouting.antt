@@ -4,11 +4,11 @@ use mathlib.Core.List.{List, map, List·Memᴰ, Memᴰ·map, Memᴰ·of-map}
 use Prim.Native.Nat.{ℕ, suc, _+_, _%_, _≤_}
 use native.Mathlib.Omega.{arith}
 use lib.Dec.{lit≤}
-use Rattle.paper.specs.Limits.{mostObjects, handleStep}
+use Rattle.paper.specs.Limits.{mostObjects, handleStep, pinWidth, idWidth}
 use Rattle.paper.specs.Bytes.{part}
 use Rattle.paper.specs.Form.{Rec, _==_, Fact, only}
-use Rattle.paper.specs.Records.{kind, SESSION, PUK, POLICY, KEY, PENDING, OPEN, CLOSED, own, session, parent, sessionOf, is, bears, state, nextObject, macCounter, keyLimit, retryLimit, keyErrors, managed, grouping, deleteProtection, operation, insert}
-use Rattle.paper.specs.Sound.{isObject, hasHandle, hasId, there, governs, pukThere, policyThere, targetThere}
+use Rattle.paper.specs.Records.{kind, SESSION, PUK, POLICY, KEY, PENDING, OPEN, CLOSED, own, session, parent, sessionOf, is, bears, state, nextObject, macCounter, keyLimit, retryLimit, keyErrors, keyManagement, grouping, deleteProtection, operation, insert}
+use Rattle.paper.specs.Sound.{isObject, hasHandle, hasId, isIn, governs, pukThere, policyThere, targetThere}
 use Rattle.paper.specs.Act.{moved, advance}
 use Rattle.paper.proofs.Forms.{cases}
 use Rattle.laws.proofs.Choice.{only-is}
@@ -26,20 +26,20 @@ pub record Sprout (s N : ℕ) (n : Rec) (rs : List Rec) : Type 0 where
   pub own= : own n ≡ s + N
   pub session= : session n ≡ s
   pub alone : Alone n
-  pub named : (x : Rec) → List·Memᴰ x rs → Fact (hasId x) → kind n ≤ KEY → session x ≡ s → part 16 33 x ≡ part 16 33 n → ⊥
+  pub named : (x : Rec) → List·Memᴰ x rs → Fact (hasId x) → kind n ≤ KEY → session x ≡ s → part 16 idWidth x ≡ part 16 idWidth n → ⊥
   pub held : (x : Rec) → List·Memᴰ x rs → kind x ≡ PENDING → kind n ≡ PENDING → session x ≡ s → parent x ≡ parent n → parent n ≡ 0
   pub puk : Fact (pukThere rs n)
   pub policy : Fact (policyThere rs n)
   pub target : Fact (targetThere rs n)
   pub under : (x : Rec) → List·Memᴰ x rs → Fact (governs x n) → (keyErrors n ≤ retryLimit x) × (deleteProtection n ≡ 2 → parent x ≡ 0 → ⊥)
-  pub alike : (p y : Rec) → List·Memᴰ p rs → List·Memᴰ y rs → grouping p ≡ 1 → Fact (governs p n) → Fact (governs p y) → part 49 17 n ≡ part 49 17 y
+  pub alike : (p y : Rec) → List·Memᴰ p rs → List·Memᴰ y rs → grouping p ≡ 1 → Fact (governs p n) → Fact (governs p y) → part 49 pinWidth n ≡ part 49 pinWidth y
   pub pinned : (x : Rec) → List·Memᴰ x rs → kind x ≡ KEY → kind n ≡ PENDING → parent n ≡ own x → operation n ≡ 51 → parent x ≡ 0 → ⊥
   pub managed : (x : Rec) → List·Memᴰ x rs → kind x ≡ SESSION → kind n ≡ PENDING → (parent n ≡ 0 → ⊥) → own x ≡ sessionOf (parent n)
-      → (state x ≡ CLOSED) × (managed x ≡ 1)
+      → (state x ≡ CLOSED) × (keyManagement x ≡ 1)
 
 -- the session: open, its next number N, with room for one object and for the uses of the MAC counter
 pub record Ready (s N used : ℕ) (rs : List Rec) : Type 0 where
-  pub here : Fact (there rs SESSION s s)
+  pub here : Fact (isIn rs SESSION s s)
   pub this : (x : Rec) → List·Memᴰ x rs → kind x ≡ SESSION → own x ≡ s
       → (state x ≡ OPEN) × (nextObject x ≡ N) × (N ≤ mostObjects) × (macCounter x + used ≤ keyLimit x)
 
@@ -77,7 +77,7 @@ module _ (s N used : ℕ) (rs : List Rec) (F : Facts rs) (R : Ready s N used rs)
       let K = kin (w .0) (w .1) in
       subst (λ z. List·Memᴰ z rs) (sym (other (w .0) (λ k. n (sym (ap kind (w .2)) ∙ K .kind= ∙ k))) ∙ w .2) (w .1)
 
-  there1 : (k o t : ℕ) → Fact (there rs k o t) → (k ≡ SESSION → ⊥) → Fact (there rs1 k o t)
+  there1 : (k o t : ℕ) → Fact (isIn rs k o t) → (k ≡ SESSION → ⊥) → Fact (isIn rs1 k o t)
   there1 k o t w n = (w .0, into (w .0) (w .1) (λ j. n (sym (w .2 .0) ∙ j)), w .2)
 
   even : s % handleStep ≡ 0
@@ -167,7 +167,7 @@ module _ (s N used : ℕ) (rs : List Rec) (F : Facts rs) (R : Ready s N used rs)
         pinned = λ x i a b e t z. S .pinned x (back x i (λ k. omega arith)) a b e t z;
         managed =
             map-all
-            (λ x. kind x ≡ SESSION → kind n ≡ PENDING → (parent n ≡ 0 → ⊥) → own x ≡ sessionOf (parent n) → (state x ≡ CLOSED) × (managed x ≡ 1)) f rs
+            (λ x. kind x ≡ SESSION → kind n ≡ PENDING → (parent n ≡ 0 → ⊥) → own x ≡ sessionOf (parent n) → (state x ≡ CLOSED) × (keyManagement x ≡ 1)) f rs
             (λ x i k j z e.
             let K = kin x i in
             let k1 = K .kind= in

@@ -4,12 +4,12 @@ use mathlib.Core.Bool.{true}
 use mathlib.Core.List.{List, List·Memᴰ}
 use Prim.Native.Nat.{ℕ, _+_, _≤_}
 use native.Mathlib.Omega.{arith}
-use Rattle.paper.specs.Limits.{mostObjects}
+use Rattle.paper.specs.Limits.{mostObjects, pinWidth, idWidth}
 use Rattle.paper.specs.Bytes.{part}
 use Rattle.paper.specs.Form.{Rec, Fact}
-use Rattle.paper.specs.Records.{kind, SESSION, PUK, POLICY, KEY, PENDING, CLOSED, own, session, parent, sessionOf, state, managed, grouping, pukErrors, shortest, longest, valueLength, keyErrors, deleteProtection, digest, operation, isStale}
+use Rattle.paper.specs.Records.{kind, SESSION, PUK, POLICY, KEY, PENDING, CLOSED, own, session, parent, sessionOf, state, keyManagement, grouping, pukErrors, minLength, maxLength, valueLength, keyErrors, deleteProtection, certificateDigest, operation, isStale}
 use Rattle.paper.specs.Table.{isBlank}
-use Rattle.paper.specs.Sound.{hasId, there, governs}
+use Rattle.paper.specs.Sound.{hasId, isIn, governs}
 use Rattle.rule.proofs.Alone.{Carries, alone-puk, alone-policy, alone-key, alone-pending}
 use Rattle.rule.proofs.Built.{Head}
 use Rattle.rule.proofs.Sprouting.{Sprout}
@@ -17,7 +17,7 @@ use Rattle.rule.proofs.Sprouting.{Sprout}
 module _ (s N : ℕ) (rs : List Rec) (lo : 1 ≤ N) (hi : N ≤ mostObjects) (n : Rec) where
   -- no record of the session has the new one's ID
   abbrev pub Unnamed : Type 0
-  Unnamed = (x : Rec) → List·Memᴰ x rs → Fact (hasId x) → session x ≡ s → part 16 33 x ≡ part 16 33 n → ⊥
+  Unnamed = (x : Rec) → List·Memᴰ x rs → Fact (hasId x) → session x ≡ s → part 16 idWidth x ≡ part 16 idWidth n → ⊥
 
   carried : (k p : ℕ) → Head k (s + N) s p n → Carries n
   carried k p H = let a = H .own= in let b = H .session= in (omega arith, omega arith)
@@ -41,7 +41,7 @@ module _ (s N : ℕ) (rs : List Rec) (lo : 1 ≤ N) (hi : N ≤ mostObjects) (n 
         managed = λ x i a b. absurd (omega arith);
       }
 
-  pub sprout-policy : (p : ℕ) → Head POLICY (s + N) s p n → shortest n ≤ longest n → ((p ≡ 0 → ⊥) → Fact (there rs PUK p s)) → Unnamed → Sprout s N n rs
+  pub sprout-policy : (p : ℕ) → Head POLICY (s + N) s p n → minLength n ≤ maxLength n → ((p ≡ 0 → ⊥) → Fact (isIn rs PUK p s)) → Unnamed → Sprout s N n rs
   sprout-policy p H z up free =
       let k = H .kind= in
       record {
@@ -62,11 +62,11 @@ module _ (s N : ℕ) (rs : List Rec) (lo : 1 ≤ N) (hi : N ≤ mostObjects) (n 
 
   -- a key: its policy is there, or none is named; a PIN exactly with a policy; protection 1 and 2 as they need it; under a shared
   -- policy the PIN of the other keys
-  pub sprout-key : (p : ℕ) → Head KEY (s + N) s p n → keyErrors n ≡ 0 → isBlank (digest n) ≡ true
+  pub sprout-key : (p : ℕ) → Head KEY (s + N) s p n → keyErrors n ≡ 0 → isBlank (certificateDigest n) ≡ true
       → (p ≡ 0 → (valueLength n ≡ 0) × (deleteProtection n ≡ 1 → ⊥) × (deleteProtection n ≡ 2 → ⊥)) → ((p ≡ 0 → ⊥) → valueLength n ≡ 0 → ⊥)
-      → ((p ≡ 0 → ⊥) → Fact (there rs POLICY p s))
+      → ((p ≡ 0 → ⊥) → Fact (isIn rs POLICY p s))
       → ((x : Rec) → List·Memᴰ x rs → kind x ≡ POLICY → own x ≡ p → session x ≡ s → deleteProtection n ≡ 2 → parent x ≡ 0 → ⊥)
-      → ((x y : Rec) → List·Memᴰ x rs → List·Memᴰ y rs → kind x ≡ POLICY → own x ≡ p → session x ≡ s → grouping x ≡ 1 → Fact (governs x y) → part 49 17 n ≡ part 49 17 y)
+      → ((x y : Rec) → List·Memᴰ x rs → List·Memᴰ y rs → kind x ≡ POLICY → own x ≡ p → session x ≡ s → grouping x ≡ 1 → Fact (governs x y) → part 49 pinWidth n ≡ part 49 pinWidth y)
       → Unnamed → Sprout s N n rs
   sprout-key p H e d none has up two like free =
       let k = H .kind= in
@@ -89,9 +89,9 @@ module _ (s N : ℕ) (rs : List Rec) (lo : 1 ≤ N) (hi : N ≤ mostObjects) (n 
       }
 
   -- a pending: its target is a key of a closed session with a KeyManagementKey, for 51 with a policy, and not yet held by this session
-  pub sprout-pending : (p : ℕ) → Head PENDING (s + N) s p n → (p ≡ 0 → ⊥) → isStale n ≡ 0 → Fact (there rs KEY p (sessionOf p))
+  pub sprout-pending : (p : ℕ) → Head PENDING (s + N) s p n → (p ≡ 0 → ⊥) → isStale n ≡ 0 → Fact (isIn rs KEY p (sessionOf p))
       → ((x : Rec) → List·Memᴰ x rs → kind x ≡ KEY → own x ≡ p → operation n ≡ 51 → parent x ≡ 0 → ⊥)
-      → ((x : Rec) → List·Memᴰ x rs → kind x ≡ SESSION → own x ≡ sessionOf p → (state x ≡ CLOSED) × (managed x ≡ 1))
+      → ((x : Rec) → List·Memᴰ x rs → kind x ≡ SESSION → own x ≡ sessionOf p → (state x ≡ CLOSED) × (keyManagement x ≡ 1))
       → ((x : Rec) → List·Memᴰ x rs → kind x ≡ PENDING → session x ≡ s → parent x ≡ p → ⊥) → Sprout s N n rs
   sprout-pending p H z u up pin aim once =
       let k = H .kind= in

@@ -10,13 +10,13 @@ use lib.Dec.{leb}
 use borrow.Author.Tests.{leb-true}
 use Rattle.paper.specs.Bytes.{byte}
 use Rattle.paper.specs.Form.{Rec, _==_, _and_, _or_, some, test, Fact}
-use Rattle.paper.specs.Records.{records, joined, kind, SESSION, PENDING, operation, block, at}
+use Rattle.paper.specs.Records.{byValue, records, joined, kind, SESSION, PENDING, operation, block, at}
 use Rattle.paper.specs.Sound.{sound}
 use Rattle.paper.specs.Closing.{held, stale, closing, holds, pendingOn}
-use Rattle.paper.specs.Calls.{method, subject, close}
+use Rattle.paper.specs.Calls.{method, subject, closeIn}
 use Rattle.paper.specs.Mac.{attestation, closeAttested}
 use Rattle.paper.specs.Act.{Act, refuse, close as closes, perform}
-use Rattle.paper.specs.Sessions.{closeFaults, closeSession, unfit}
+use Rattle.paper.specs.Sessions.{closeFaults, closeSession, unfit, closeBy}
 use Rattle.paper.specs.Answer.{Answer, step, sessionStep, sessionAct, isOpen}
 use Rattle.paper.proofs.Forms.{both, cases}
 use Rattle.laws.proofs.Bytes.{split}
@@ -46,9 +46,9 @@ module _ (c chip : List ℕ) (rs : List Rec) (is-3 : method c ≡ 3) where
 
   -- a close that answers 0 was fit, and did all that a close does
   close-done : step c chip rs .status ≡ 0 → (Fact (unfit (block s rs)) → ⊥) × (step c chip rs .store ≡ map (closing s rs) rs)
-  unfolding closeSession perform
-  close-done = rw step-close (settled-each Done (closeFaults c chip (close c) (at SESSION s s (block s rs)) (block s rs)) refuse
-      (closes (attestation (at SESSION s s (block s rs)) (closeAttested (close c))))
+  unfolding closeBy perform
+  close-done = rw step-close (settled-each Done (closeFaults c chip (closeIn c) (byValue (at SESSION s s (block s rs))) (block s rs)) refuse
+      (closes (attestation (byValue (at SESSION s s (block s rs))) (closeAttested (closeIn c))))
       ((λ f z. absurd (omega arith)), ((λ f z. absurd (omega arith)), ((λ f z. absurd (omega arith)), ((λ f z. absurd (omega arith)), tt)))) (λ w z. (w .1 .1 .1 .0, refl)))
     where
       Done : Act → Type 0

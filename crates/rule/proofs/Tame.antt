@@ -5,24 +5,24 @@ use mathlib.Core.Bool.{Bool, true, false, _&&_}
 use mathlib.Core.List.{List, [], _∷_, List·Memᴰ}
 use mathlib.Core.Option.{Option, none, some as just}
 use mathlib.Core.Logic.{_⊎_, inl, inr}
-use Prim.Native.Nat.{ℕ, _+_, _*_, _/_, _%_, _≤_, _<_}
+use Prim.Native.Nat.{ℕ, _+_, _*_, _/_, _%_, _≤_, _<_, _-_}
 use Prim.Native.String.{String}
 use native.Mathlib.Omega.{arith}
 use lib.ListN.{length}
 use lib.Dec.{eqb, leb, lit≤, lit<}
 use borrow.Author.Tests.{leb-true, eqb-false}
 use Rattle.sha256.specs.Sha256.{SHA256}
-use Rattle.paper.specs.Limits.{longestId, longestPin, longestPublicKey}
-use Rattle.paper.specs.Bytes.{two, four, over, padded, zerosOf, within, stringAt}
+use Rattle.paper.specs.Limits.{longestId, longestPin, longestPublicKey, bytesFrom, pinEnd}
+use Rattle.paper.specs.Bytes.{two, four, over, paddedText, zerosOf, within, stringAt}
 use Rattle.paper.specs.Form.{Rec, _==_, _=<_, say, _and_, _or_, Fact, only}
-use Rattle.paper.specs.Records.{kind, SESSION, PUK, POLICY, KEY, PENDING, own, session, parent, state, longest, shortest, is, at, sessionOf, block, zeros}
+use Rattle.paper.specs.Records.{byValue, kind, SESSION, PUK, POLICY, KEY, PENDING, own, session, parent, state, maxLength, minLength, is, at, sessionOf, block, zeros}
 use Rattle.paper.specs.Text.{pinFits, formatFits, patternFits}
 use Rattle.paper.specs.Records.{format, patterns}
-use Rattle.paper.specs.Calls.{method, subject, isSessionCall, puk, pukForm, policy, policyForm, Key, key, keyForm, path, Post, post, postForm}
+use Rattle.paper.specs.Calls.{method, subject, isSessionCall, pukIn, pukForm, policyIn, policyForm, Key, keyIn, keyForm, pathIn, Post, postIn, postForm}
 use Rattle.paper.specs.Act.{Act, refuse, inside, close, moved, advance, fresh, noAttestation}
-use Rattle.paper.specs.Objects.{pukFaults, pukRecord, makePuk, policyFaults, policyRecord, makePolicy, pinOf, keyFaults, keyRecord, makeKey, certified, pathFaults, setPath, notThere}
-use Rattle.paper.specs.Posting.{Look, look, isTarget, postFaults, pendingRecord, postAs}
-use Rattle.paper.specs.Sessions.{closeFaults, closeSession, abortFaults, abortSession}
+use Rattle.paper.specs.Objects.{pukFaults, pukRecord, makePuk, policyFaults, policyRecord, makePolicy, pinOf, keyFaults, keyRecord, makeKey, certified, pathFaults, setPath, notThere, makePolicyBy, makePukBy, makeKeyBy, setPathBy}
+use Rattle.paper.specs.Posting.{Look, look, isTarget, postFaults, pendingRecord, postAs, postBy}
+use Rattle.paper.specs.Sessions.{closeFaults, closeSession, abortFaults, abortSession, closeBy}
 use Rattle.paper.specs.Answer.{sessionAct, isOpen}
 use Rattle.paper.proofs.Forms.{both, cases, Clear, settled, contrary}
 use Rattle.laws.proofs.Choice.{holds, only-is}
@@ -107,13 +107,13 @@ Tame s asks (inside h t g new) = (((x : Rec) → g x ≡ zeros) × (new ≡ none
 
 -- the call asks for key k: a decoded 50 or 51 that names it
 abbrev pub Asking : List ℕ → List ℕ → ℕ → Type 0
-Asking c chip k = Fact ((method c == 50 or method c == 51) and postForm c chip) × (post c chip .key ≡ k)
+Asking c chip k = Fact ((method c == 50 or method c == 51) and postForm c chip) × (postIn c chip .key ≡ k)
 
-pin-short : (pol : Rec) (v : List ℕ) → pinFits pol v ≡ true → longest pol ≤ 16 → length v ≤ longestPin
+pin-short : (pol : Rec) (v : List ℕ) → pinFits pol v ≡ true → maxLength pol ≤ 16 → length v ≤ longestPin
 unfolding pinFits
 pin-short pol v e h =
-    let w = split (within (shortest pol) (longest pol) (length v)) (formatFits (format pol) v && patternFits (patterns pol) v) e .0 in
-    let l = leb-true (length v) (longest pol) (split (leb (shortest pol) (length v)) (leb (length v) (longest pol)) w .1) in
+    let w = split (within (minLength pol) (maxLength pol) (length v)) (formatFits (format pol) v && patternFits (patterns pol) v) e .0 in
+    let l = leb-true (length v) (maxLength pol) (split (leb (minLength pol) (length v)) (leb (length v) (maxLength pol)) w .1) in
     omega arith
 
 module _ (c chip : List ℕ) (rs : List Rec) (F : Facts rs) (isOn : Fact (isOpen (subject c) rs)) where
@@ -140,32 +140,32 @@ module _ (c chip : List ℕ) (rs : List Rec) (F : Facts rs) (isOn : Fact (isOpen
 
   -- a record with this head, in an open session that has an object number left
   module _ (k a b d p : ℕ) (vs : List (List ℕ)) where
-    born : PUK ≤ k → k ≤ PENDING → two 2 ses ≤ 999 → total vs ≡ 240 → p < 4294967296 → (k ≡ PENDING → Asking c chip p) → Newborn s (Asking c chip) (newly k a b d (fresh s ses) s p vs)
+    born : PUK ≤ k → k ≤ PENDING → two 2 ses ≤ 999 → total vs ≡ 240 → p < 4294967296 → (k ≡ PENDING → Asking c chip p) → Newborn s (Asking c chip) (newly k a b d (fresh s (byValue ses)) s p vs)
     born lo hi left w pl ask =
         record {
           long = let l = length-flat vs in omega arith;
-          least = rw (newly-kind k a b d (fresh s ses) s p vs) lo;
-          most = rw (newly-kind k a b d (fresh s ses) s p vs) hi;
-          session= = newly-session k a b d (fresh s ses) s p vs (let t = sits .most in omega arith);
-          home = rw (newly-own k a b d (fresh s ses) s p vs (carries s (two 2 ses) sits left .0)) (carries s (two 2 ses) sits left .1);
-          asked = λ e. rw (newly-parent k a b d (fresh s ses) s p vs pl) (ask (sym (newly-kind k a b d (fresh s ses) s p vs) ∙ e));
+          least = rw (newly-kind k a b d (fresh s (byValue ses)) s p vs) lo;
+          most = rw (newly-kind k a b d (fresh s (byValue ses)) s p vs) hi;
+          session= = newly-session k a b d (fresh s (byValue ses)) s p vs (let t = sits .most in omega arith);
+          home = rw (newly-own k a b d (fresh s (byValue ses)) s p vs (carries s (two 2 ses) sits left .0)) (carries s (two 2 ses) sits left .1);
+          asked = λ e. rw (newly-parent k a b d (fresh s (byValue ses)) s p vs pl) (ask (sym (newly-kind k a b d (fresh s (byValue ses)) s p vs) ∙ e));
         }
 
   -- ---- method by method
 
   tame-puk : Keeps (makePuk c chip blk)
-  unfolding makePuk pukRecord
-  tame-puk = settled Keeps (pukFaults c chip (puk c chip) ses blk) refuse
-      (inside (fresh s ses) noAttestation (advance s 1 1) (just (pukRecord s (puk c chip) ses)))
+  unfolding makePukBy pukRecord
+  tame-puk = settled Keeps (pukFaults c chip (pukIn c chip) (pukIn c chip .value) (byValue ses) blk) refuse
+      (inside (fresh s (byValue ses)) noAttestation (advance s 1 1) (just (pukRecord s (pukIn c chip) (pukIn c chip .value) (byValue ses))))
       (λ n. tt) (λ w. inr (mild-advance s 1 1, made w))
     where
-      made : Clear (pukFaults c chip (puk c chip) ses blk) → Newborn s (Asking c chip) (pukRecord s (puk c chip) ses)
+      made : Clear (pukFaults c chip (pukIn c chip) (pukIn c chip .value) (byValue ses) blk) → Newborn s (Asking c chip) (pukRecord s (pukIn c chip) (pukIn c chip .value) (byValue ses))
       made w =
           let f = holds (pukForm c chip) (w .0) in
           let left = holds (two 2 ses =< 999) (w .1 .1 .1 .1 .1 .1 .0) in
-          born PUK (puk c chip .format) (puk c chip .retry) 0 0
-          (padded longestId (stringAt 5 c) ∷ padded longestPin chip ∷ zerosOf 190 ∷ []) (lit≤ tt) (lit≤ tt) left
-          (let i = length-kept 5 longestId c (f .0 .0 .1) in let v = length-padded longestPin chip (f .1 .1 .1 .1) in let z = length-zerosOf 190 in omega arith)
+          born PUK (pukIn c chip .format) (pukIn c chip .retry) 0 0
+          (paddedText longestId (stringAt 5 c) ∷ paddedText longestPin chip ∷ zerosOf (bytesFrom pinEnd) ∷ []) (lit≤ tt) (lit≤ tt) left
+          (let i = length-kept 5 longestId c (f .0 .0 .1) in let v = length-padded longestPin chip (f .1 .1 .1 .1) in let z = length-zerosOf (bytesFrom pinEnd) in omega arith)
           (lit< tt) (λ e. absurd (omega arith))
 
   -- a record of the session that a handle names
@@ -187,64 +187,64 @@ module _ (c chip : List ℕ) (rs : List Rec) (F : Facts rs) (isOn : Fact (isOpen
       under p t o a b e = let m = b .most in omega arith
 
   tame-policy : Keeps (makePolicy c chip blk)
-  unfolding makePolicy policyRecord
-  tame-policy = settled Keeps (policyFaults c chip (policy c) (at PUK (policy c .puk) s blk) ses blk) refuse
-      (inside (fresh s ses) noAttestation (advance s 1 1) (just (policyRecord s (policy c) ses)))
+  unfolding makePolicyBy policyRecord
+  tame-policy = settled Keeps (policyFaults c chip (policyIn c) (at PUK (policyIn c .puk) s blk) (byValue ses) blk) refuse
+      (inside (fresh s (byValue ses)) noAttestation (advance s 1 1) (just (policyRecord s (policyIn c) (byValue ses))))
       (λ n. tt) (λ w. inr (mild-advance s 1 1, made w))
     where
-      made : Clear (policyFaults c chip (policy c) (at PUK (policy c .puk) s blk) ses blk) → Newborn s (Asking c chip) (policyRecord s (policy c) ses)
+      made : Clear (policyFaults c chip (policyIn c) (at PUK (policyIn c .puk) s blk) (byValue ses) blk) → Newborn s (Asking c chip) (policyRecord s (policyIn c) (byValue ses))
       made w =
           let f = holds (policyForm c chip) (w .0) in
           let left = holds (two 2 ses =< 999) (w .1 .1 .1 .1 .1 .1 .1 .1 .1 .1 .1 .0) in
-          let q = policy c in
+          let q = policyIn c in
           born POLICY (q .format) (q .retry) (q .grouping) (q .puk)
-          (padded longestId (stringAt 5 c) ∷ (q .defined ∷ []) ∷ (q .modifiable ∷ []) ∷ (q .patterns ∷ []) ∷ (q .shortest ∷ []) ∷ (q .longest ∷ []) ∷ zerosOf 202 ∷ [])
-          (lit≤ tt) (lit≤ tt) left (let i = length-kept 5 longestId c (f .0 .0 .1) in let z = length-zerosOf 202 in omega arith)
+          (paddedText longestId (stringAt 5 c) ∷ (q .defined ∷ []) ∷ (q .modifiable ∷ []) ∷ (q .patterns ∷ []) ∷ (q .minLength ∷ []) ∷ (q .maxLength ∷ []) ∷ zerosOf (bytesFrom 54) ∷ [])
+          (lit≤ tt) (lit≤ tt) left (let i = length-kept 5 longestId c (f .0 .0 .1) in let z = length-zerosOf (bytesFrom 54) in omega arith)
           (small PUK (q .puk) (lit≤ tt) (lit≤ tt) (w .1 .1 .0)) (λ e. absurd (omega arith))
 
   tame-key : Keeps (makeKey c chip blk)
-  unfolding makeKey keyRecord
-  tame-key = settled Keeps (keyFaults c chip q pol ses blk) refuse
-      (inside (fresh s ses) (Rattle.paper.specs.Mac.attestation ses (Rattle.paper.specs.Mac.keyAttested q)) (advance s 1 2) (just (keyRecord s q pol ses)))
+  unfolding makeKeyBy keyRecord
+  tame-key = settled Keeps (keyFaults c chip q (pinOf q pol) pol (byValue ses) blk) refuse
+      (inside (fresh s (byValue ses)) (Rattle.paper.specs.Mac.attestation (byValue ses) (Rattle.paper.specs.Mac.keyAttested q)) (advance s 1 2) (just (keyRecord s q (pinOf q pol) (byValue ses))))
       (λ n. tt) (λ w. inr (mild-advance s 1 2, made w))
     where
       q : Key
-      q = key c chip
+      q = keyIn c chip
 
       pol : Rec
       pol = at POLICY (q .policy) s blk
 
-      short : Clear (keyFaults c chip q pol ses blk) → (b : Bool) → eqb (q .policy) 0 ≡ b → length (pinOf q pol) ≤ longestPin
+      short : Clear (keyFaults c chip q (pinOf q pol) pol (byValue ses) blk) → (b : Bool) → eqb (q .policy) 0 ≡ b → length (pinOf q pol) ≤ longestPin
       short w true e = rw e (lit≤ tt)
       short w false e =
           let z = eqb-false (q .policy) 0 e in
           let i = holds (kind pol == POLICY) (λ h. w .1 .1 .1 .1 .1 .0 (z, h)) in
           let x = found POLICY (q .policy) i (λ y. omega arith) .0 in
-          let most = leb-true (longest pol) 16 (split (leb 1 (longest pol)) (leb (longest pol) 16) (tabled-field 12 POLICY pol i (F .alone pol x .tabled)) .1) in
+          let most = leb-true (maxLength pol) 16 (split (leb 1 (maxLength pol)) (leb (maxLength pol) 16) (tabled-field 12 POLICY pol i (F .alone pol x .tabled)) .1) in
           pin-short pol (pinOf q pol) (holds (say (pinFits pol (pinOf q pol))) (λ h. w .1 .1 .1 .1 .1 .1 .1 .1 .1 .1 .1 .0 (z, h))) most
 
-      made : Clear (keyFaults c chip q pol ses blk) → Newborn s (Asking c chip) (keyRecord s q pol ses)
+      made : Clear (keyFaults c chip q (pinOf q pol) pol (byValue ses) blk) → Newborn s (Asking c chip) (keyRecord s q (pinOf q pol) (byValue ses))
       made w =
           let f = holds (keyForm c chip) (w .0) in
           let left = holds (two 2 ses =< 999) (w .1 .1 .1 .1 .1 .1 .1 .1 .1 .1 .1 .1 .1 .1 .1 .1 .0) in
           born KEY 0 0 (q .deletion) (q .policy)
-          (padded longestId (stringAt 5 c) ∷ padded longestPin (pinOf q pol) ∷ zerosOf 16 ∷ padded longestPublicKey (stringAt 0 chip) ∷ zerosOf 32 ∷ (q .caching ∷ []) ∷
-          (q .export ∷ []) ∷ (q .usage ∷ []) ∷ zerosOf 42 ∷ [])
+          (paddedText longestId (stringAt 5 c) ∷ paddedText longestPin (pinOf q pol) ∷ zerosOf (82 - pinEnd) ∷ paddedText longestPublicKey (stringAt 0 chip) ∷ zerosOf 32 ∷ (q .caching ∷ []) ∷
+          (q .export ∷ []) ∷ (q .usage ∷ []) ∷ zerosOf (bytesFrom 214) ∷ [])
           (lit≤ tt) (lit≤ tt) left
           (let i = length-kept 5 longestId c (f .0 .0 .1) in
           let v = length-padded longestPin (pinOf q pol) (short w (eqb (q .policy) 0) refl) in
           let y = length-kept 0 longestPublicKey chip (f .1 .1 .1 .1 .1 .1 .1 .0 .1) in
-          let z = length-zerosOf 16 in
+          let z = length-zerosOf (82 - pinEnd) in
           let z′ = length-zerosOf 32 in
-          let z″ = length-zerosOf 42 in
+          let z″ = length-zerosOf (bytesFrom 214) in
           omega arith)
           (small POLICY (q .policy) (lit≤ tt) (lit≤ tt) (w .1 .1 .1 .1 .1 .0)) (λ e. absurd (omega arith))
 
   tame-path : Keeps (setPath c chip blk)
-  unfolding setPath
-  tame-path = settled Keeps (pathFaults c chip (path c) (at KEY (path c .key) s blk) ses) refuse
-      (inside 0 noAttestation (λ r. only (is KEY (path c .key) s) (certified (SHA256 (path c .first))) (advance s 0 1 r)) none)
-      (λ n. tt) (λ w. inr ((λ x. mild-certified (path c .key) s (SHA256 (path c .first)) x (advance s 0 1 x) (mild-advance s 0 1 x)), tt))
+  unfolding setPathBy
+  tame-path = settled Keeps (pathFaults c chip (pathIn c) (at KEY (pathIn c .key) s blk) (byValue ses)) refuse
+      (inside 0 noAttestation (λ r. only (is KEY (pathIn c .key) s) (certified (SHA256 (pathIn c .first))) (advance s 0 1 r)) none)
+      (λ n. tt) (λ w. inr ((λ x. mild-certified (pathIn c .key) s (SHA256 (pathIn c .first)) x (advance s 0 1 x) (mild-advance s 0 1 x)), tt))
 
   -- a key that a look finds
   looked : (k : ℕ) → look k rs .there ≡ true → k < 4294967296
@@ -260,35 +260,35 @@ module _ (c chip : List ℕ) (rs : List Rec) (F : Facts rs) (isOn : Fact (isOpen
       under : (p t o : ℕ) → p ≤ t + 999 → Seat t → p ≡ o → o < 4294967296
       under p t o a b e = let m = b .most in omega arith
 
-  tame-post : (op : ℕ) (name : String) → (Fact (postForm c chip) → Asking c chip (post c chip .key)) → Keeps (postAs op name c chip blk (look (post c chip .key) rs))
-  unfolding postAs pendingRecord
-  tame-post op name ask = settled Keeps (postFaults op name c chip q ses blk l) refuse
-      (inside 0 noAttestation (advance s 1 1) (just (pendingRecord op s (q .key) ses)))
+  tame-post : (op : ℕ) (name : String) → (Fact (postForm c chip) → Asking c chip (postIn c chip .key)) → Keeps (postAs op name c chip blk (look (postIn c chip .key) rs))
+  unfolding postBy pendingRecord
+  tame-post op name ask = settled Keeps (postFaults op name c chip q (byValue ses) blk l) refuse
+      (inside 0 noAttestation (advance s 1 1) (just (pendingRecord op s (q .key) (byValue ses))))
       (λ n. tt) (λ w. inr (mild-advance s 1 1, made w))
     where
       q : Post
-      q = post c chip
+      q = postIn c chip
 
       l : Look
       l = look (q .key) rs
 
-      made : Clear (postFaults op name c chip q ses blk l) → Newborn s (Asking c chip) (pendingRecord op s (q .key) ses)
+      made : Clear (postFaults op name c chip q (byValue ses) blk l) → Newborn s (Asking c chip) (pendingRecord op s (q .key) (byValue ses))
       made w =
           let left = holds (two 2 ses =< 999) (w .1 .1 .1 .1 .1 .1 .1 .1 .0) in
-          born PENDING op 0 0 (q .key) (zerosOf 240 ∷ []) (lit≤ tt) (lit≤ tt) left (let z = length-zerosOf 240 in omega arith)
+          born PENDING op 0 0 (q .key) (zerosOf (bytesFrom 16) ∷ []) (lit≤ tt) (lit≤ tt) left (let z = length-zerosOf (bytesFrom 16) in omega arith)
           (looked (q .key) (holds (say (l .there)) (w .1 .0))) (λ e. ask (holds (postForm c chip) (w .0)))
 
   tame-close : Keeps (closeSession c chip blk)
-  unfolding closeSession
-  tame-close = settled Keeps (closeFaults c chip (Rattle.paper.specs.Calls.close c) ses blk) refuse
-      (close (Rattle.paper.specs.Mac.attestation ses (Rattle.paper.specs.Mac.closeAttested (Rattle.paper.specs.Calls.close c)))) (λ n. tt) (λ w. tt)
+  unfolding closeBy
+  tame-close = settled Keeps (closeFaults c chip (Rattle.paper.specs.Calls.closeIn c) (byValue ses) blk) refuse
+      (close (Rattle.paper.specs.Mac.attestation (byValue ses) (Rattle.paper.specs.Mac.closeAttested (Rattle.paper.specs.Calls.closeIn c)))) (λ n. tt) (λ w. tt)
 
   tame-abort : Keeps (abortSession c chip)
   unfolding abortSession
   tame-abort = settled Keeps (abortFaults c chip) refuse (inside 0 noAttestation (λ r. zeros) none) (λ n. tt) (λ w. inl ((λ x. refl), refl))
 
   -- every session call
-  pub tame : Fact (isSessionCall c) → Keeps (sessionAct c chip blk (look (post c chip .key) rs))
+  pub tame : Fact (isSessionCall c) → Keeps (sessionAct c chip blk (look (postIn c chip .key) rs))
   unfolding sessionAct
   tame (inl e) = rw e tame-close
   tame (inr (inl e)) = rw e tame-abort

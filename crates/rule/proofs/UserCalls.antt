@@ -8,7 +8,7 @@ use Rattle.paper.specs.Records.{kind, KEY, own, session, parent, sessionOf, del
 use Rattle.paper.specs.Text.{pinFits}
 use Rattle.paper.specs.Calls.{subject, typed, typedNew, method}
 use Rattle.paper.specs.Pin.{pinMissed, pinHit, pukMissed, pukHit}
-use Rattle.paper.specs.Closing.{one, none}
+use Rattle.paper.specs.Closing.{one, noKeys}
 use Rattle.paper.specs.Posting.{target, isTarget}
 use Rattle.paper.specs.Act.{Out, plain}
 use Rattle.paper.specs.Users.{policyOf, pukOf, removed, unlocked, changed, deleteFaults, deleteKey, unlockFaults, unlockKey, changeFaults, changePin, useFaults, useKey}
@@ -51,20 +51,20 @@ module _ (c chip : List ℕ) (rs : List Rec) (F : Facts rs) where
   delete-kept =
       settled Stays (deleteFaults c chip x rs) (λ n. plain n rs) _ (λ n. F) (λ g.
       let t = holds (isTarget k rs) (search) in
-      choose Stays (deleteProtection x == 0) (plain 0 (removed k rs)) _ (λ e. effect-kept (one k) none rs F) (λ n.
+      choose Stays (deleteProtection x == 0) (plain 0 (removed k rs)) _ (λ e. effect-kept (one k) noKeys rs F) (λ n.
       choose Stays (deleteProtection x == 1) _ _
-      (λ e. tried-pin Stays rs (map (pinMissed x) rs) (removed k rs) F pol x (typed c) (λ l. pin-missed-kept rs F k (sessionOf k) (protected t e) l) (λ l. effect-kept (one k) none rs F))
+      (λ e. tried-pin Stays rs (map (pinMissed x) rs) (removed k rs) F pol x (typed c) (λ l. pin-missed-kept rs F k (sessionOf k) (protected t e) l) (λ l. effect-kept (one k) noKeys rs F))
       (λ m.
       tried-puk Stays rs (map (pukMissed puk) rs) (removed k (map (pukHit puk) rs)) F puk (typed c)
       (λ l. puk-missed-kept rs F (parent pol) (session pol) l)
-      (λ l. effect-kept (one k) none (map (pukHit puk) rs) (puk-hit-kept rs F puk)))))
+      (λ l. effect-kept (one k) noKeys (map (pukHit puk) rs) (puk-hit-kept rs F puk)))))
 
   pub unlock-kept : Stays (unlockKey c chip rs)
   unfolding unlockKey
   unlock-kept =
       settled Stays (unlockFaults c chip x pol puk rs) (λ n. plain n rs) _ (λ n. F) (λ g.
       tried-puk Stays rs (map (pukMissed puk) rs) (unlocked k rs) F puk (typed c) (λ l. puk-missed-kept rs F (parent pol) (session pol) l)
-      (λ l. effect-kept none (one k) rs F))
+      (λ l. effect-kept noKeys (one k) rs F))
 
   pub change-kept : Stays (changePin c chip rs)
   unfolding changePin

@@ -3,8 +3,8 @@ use mathlib.Core.Path.{_≡_}
 use mathlib.Core.List.{List}
 use Prim.Native.Nat.{ℕ}
 use Rattle.paper.specs.Form.{Rec}
-use Rattle.paper.specs.Records.{records, SESSION, PUK, POLICY, KEY, at}
-use Rattle.paper.specs.Calls.{method, subject, close, puk, policy, key, path, post}
+use Rattle.paper.specs.Records.{byValue, records, SESSION, PUK, POLICY, KEY, at}
+use Rattle.paper.specs.Calls.{method, subject, closeIn, pukIn, policyIn, keyIn, pathIn, postIn}
 use Rattle.paper.specs.Mac.{mac, closeData, pukData, policyData, keyData, pathData, postData}
 use Rattle.paper.specs.Answer.{answer}
 use Rattle.rule.specs.Refusals.{Taken}
@@ -24,16 +24,16 @@ pub record Accepted (m : ℕ) (s c chip reply : List ℕ) : Type 0 where
 
 pub record Checked : Type 0 where
   pub closes : (s c chip reply : List ℕ) → Accepted 3 s c chip reply
-      → close c .mac ≡ mac (caller s c) "closeProvisioningSession" (closeData (caller s c) (close c))
+      → closeIn c .mac ≡ mac (byValue (caller s c)) "closeProvisioningSession" (closeData (byValue (caller s c)) (closeIn c))
   pub puks : (s c chip reply : List ℕ) → Accepted 8 s c chip reply
-      → puk c chip .mac ≡ mac (caller s c) "createPUKPolicy" (pukData (puk c chip))
+      → pukIn c chip .mac ≡ mac (byValue (caller s c)) "createPUKPolicy" (pukData (pukIn c chip))
   pub policies : (s c chip reply : List ℕ) → Accepted 9 s c chip reply
-      → policy c .mac ≡ mac (caller s c) "createPINPolicy" (policyData (policy c) (object s c PUK (policy c .puk)))
+      → policyIn c .mac ≡ mac (byValue (caller s c)) "createPINPolicy" (policyData (policyIn c) (object s c PUK (policyIn c .puk)))
   pub keys : (s c chip reply : List ℕ) → Accepted 10 s c chip reply
-      → key c chip .mac ≡ mac (caller s c) "createKeyEntry" (keyData (key c chip) (object s c POLICY (key c chip .policy)))
+      → keyIn c chip .mac ≡ mac (byValue (caller s c)) "createKeyEntry" (keyData (keyIn c chip) (object s c POLICY (keyIn c chip .policy)))
   pub paths : (s c chip reply : List ℕ) → Accepted 12 s c chip reply
-      → path c .mac ≡ mac (caller s c) "setCertificatePath" (pathData (object s c KEY (path c .key)) (path c))
+      → pathIn c .mac ≡ mac (byValue (caller s c)) "setCertificatePath" (pathData (object s c KEY (pathIn c .key)) (pathIn c))
   pub deletions : (s c chip reply : List ℕ) → Accepted 50 s c chip reply
-      → post c chip .mac ≡ mac (caller s c) "postDeleteKey" (postData (post c chip))
+      → postIn c chip .mac ≡ mac (byValue (caller s c)) "postDeleteKey" (postData (postIn c chip))
   pub unlockings : (s c chip reply : List ℕ) → Accepted 51 s c chip reply
-      → post c chip .mac ≡ mac (caller s c) "postUnlockKey" (postData (post c chip))
+      → postIn c chip .mac ≡ mac (byValue (caller s c)) "postUnlockKey" (postData (postIn c chip))

@@ -10,7 +10,7 @@ use Rattle.paper.specs.Bytes.{allWithin}
 use Rattle.paper.specs.Form.{Rec, Form, _==_, no, _and_, _or_, some, Fact}
 use Rattle.paper.specs.Records.{records, kind, KEY, own, session, sessionOf}
 use Rattle.paper.specs.Sound.{sound, isObject, closed}
-use Rattle.paper.specs.Calls.{method, subject, isSessionCall, policy, policyForm, key, keyForm, path, pathForm, post, postForm}
+use Rattle.paper.specs.Calls.{method, subject, isSessionCall, policyIn, policyForm, keyIn, keyForm, pathIn, pathForm, postIn, postForm}
 use Rattle.paper.specs.Answer.{isOpen}
 use Rattle.rule.specs.Runs.{Call, answered, after}
 use Rattle.rule.specs.Stands.{Holds}
@@ -26,14 +26,14 @@ pub record CallOn (a : ℕ) (q : Call) : Type 0 where
 abbrev pub asks : Call → ℕ → Form
 asks q k =
     (method (q .bytes) == 50 or method (q .bytes) == 51) and postForm (q .bytes) (q .chip)
-    and post (q .bytes) (q .chip) .key == k and no (k == 0)
+    and postIn (q .bytes) (q .chip) .key == k and no (k == 0)
 
 -- The PUK handle of 9, the policy handle of 10, the key handle of 12, 50 and 51. 0 names nothing, and so does a malformed call.
 abbrev pub names : Call → ℕ → Form
 names q h =
-    (method (q .bytes) == 9 and policyForm (q .bytes) (q .chip) and policy (q .bytes) .puk == h and no (h == 0))
-    or (method (q .bytes) == 10 and keyForm (q .bytes) (q .chip) and key (q .bytes) (q .chip) .policy == h and no (h == 0))
-    or (method (q .bytes) == 12 and pathForm (q .bytes) (q .chip) and path (q .bytes) .key == h and no (h == 0))
+    (method (q .bytes) == 9 and policyForm (q .bytes) (q .chip) and policyIn (q .bytes) .puk == h and no (h == 0))
+    or (method (q .bytes) == 10 and keyForm (q .bytes) (q .chip) and keyIn (q .bytes) (q .chip) .policy == h and no (h == 0))
+    or (method (q .bytes) == 12 and pathForm (q .bytes) (q .chip) and pathIn (q .bytes) .key == h and no (h == 0))
     or asks q h
 
 -- An object of the session; a key of a closed session.

@@ -2,9 +2,9 @@
 // as an issuer's server makes it, and handed to the token; the line below the words has the method, the handles that the call names, and
 // the status and the handle that came back. What has to be printed was worked out by hand from document 01: the file `stdout`.
 use libc::STDOUT_FILENO;
-use slices::byte_at;
-use slices::four_at;
-use slices::part_of;
+use store_records::byte_at;
+use store_records::four_at;
+use store_records::part_of;
 
 enum Who {
     Maker,
@@ -409,7 +409,7 @@ fn count(store: &[u8], record: &[u8]) -> u64 {
     let mut n: u64 = 0;
     let mut i: usize = 0;
     while i < 16 {
-        if slices::same(part_of(store, i * 256, 256), record) {
+        if store_records::same(part_of(store, i * 256, 256), record) {
             n = std::num::wrapping_add_u64(n, 1);
         }
         i += 1;
@@ -739,7 +739,7 @@ fn compare(a: &[u8], b: &[u8]) {
     } else {
         say(b"OTHER RECORDS");
     }
-    if slices::same(a, b) {
+    if store_records::same(a, b) {
         say(b", at the same places.\n");
     } else {
         say(b", at other places.\n");
@@ -855,7 +855,7 @@ fn giving_up(store: &mut [u8], door: u32) {
 
 // The counter has the first place: it went on, for no session's number is given twice.
 fn compare_rest(before: &[u8], after: &[u8]) {
-    if slices::same(
+    if store_records::same(
         part_of(before, 256, 15 * 256),
         part_of(after, 256, 15 * 256),
     ) {

@@ -14,7 +14,7 @@ use Rattle.paper.specs.Bytes.{enc4, over, within}
 use Rattle.paper.specs.Form.{Rec, test, Fact}
 use Rattle.paper.specs.Records.{records, block, zeros}
 use Rattle.paper.specs.Sound.{lengthFits, Sound, sound}
-use Rattle.paper.specs.Calls.{method, subject, isSessionCall, post}
+use Rattle.paper.specs.Calls.{method, subject, isSessionCall, postIn}
 use Rattle.paper.specs.Act.{Out, perform}
 use Rattle.paper.specs.Objects.{makePuk, makePolicy, makeKey, setPath}
 use Rattle.paper.specs.Posting.{look, postDelete, postUnlock}
@@ -23,13 +23,13 @@ use Rattle.paper.specs.Users.{deleteKey, unlockKey, changePin, useKey}
 use Rattle.paper.specs.Answer.{sessionAct, sessionStep, userStep, step, earlyFaults, judged, told, written, answer, freshCounter, formatted}
 use Rattle.paper.proofs.Forms.{both}
 use Rattle.laws.proofs.Bytes.{split}
-use Rattle.records.specs.View.{Becomes}
-use Rattle.records.proofs.Views.{length-records, whole, after}
-use Rattle.ladder.specs.Rungs.{status}
-use Rattle.ladder.specs.declared.Reply.{Reply}
-use Rattle.ladder.specs.Answers.{Answers, bareReply}
-use Rattle.ladder.proofs.Climbs.{settle-done, settle-not}
-use Rattle.outcomes.specs.Range.{inRange}
+use Rattle.store_records.specs.View.{Becomes}
+use Rattle.store_records.proofs.Views.{length-records, whole, after}
+use Rattle.method_acts.specs.Rungs.{status}
+use Rattle.method_acts.specs.declared.Reply.{Reply}
+use Rattle.method_acts.specs.Answers.{Answers, bareReply}
+use Rattle.method_acts.proofs.Climbs.{settle-done, settle-not}
+use Rattle.method_acts.specs.Range.{inRange}
 use Rattle.token.specs.Said.{known, made}
 use Rattle.token.specs.Said.{told as said-so}
 
@@ -90,12 +90,12 @@ module _ (c chip : List ℕ) (rs : List Rec) where
   unfolding sessionStep sessionAct
   step-12 e = rw e
 
-  pub step-50 : method c ≡ 50 → sessionStep c chip rs ≡ perform (subject c) (postDelete c chip (block (subject c) rs) (look (post c chip .key) rs)) rs
+  pub step-50 : method c ≡ 50 → sessionStep c chip rs ≡ perform (subject c) (postDelete c chip (block (subject c) rs) (look (postIn c chip .key) rs)) rs
   unfolding sessionStep sessionAct
   step-50 e = rw e
 
   pub step-51 : (method c ≡ 3 → ⊥) → (method c ≡ 5 → ⊥) → (method c ≡ 8 → ⊥) → (method c ≡ 9 → ⊥) → (method c ≡ 10 → ⊥) → (method c ≡ 12 → ⊥)
-      → (method c ≡ 50 → ⊥) → sessionStep c chip rs ≡ perform (subject c) (postUnlock c chip (block (subject c) rs) (look (post c chip .key) rs)) rs
+      → (method c ≡ 50 → ⊥) → sessionStep c chip rs ≡ perform (subject c) (postUnlock c chip (block (subject c) rs) (look (postIn c chip .key) rs)) rs
   unfolding sessionStep sessionAct
   step-51 h3 h5 h8 h9 h10 h12 h50 =
       rw (ne-eqb (method c) 3 h3, ne-eqb (method c) 5 h5, ne-eqb (method c) 8 h8, ne-eqb (method c) 9 h9, ne-eqb (method c) 10 h10, ne-eqb (method c) 12 h12, ne-eqb (method c) 50 h50)

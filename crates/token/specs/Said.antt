@@ -3,7 +3,7 @@ use mathlib.Core.List.{List, _∷_, _++_}
 use Prim.Native.Nat.{ℕ}
 use Rattle.paper.specs.Bytes.{enc4}
 use Rattle.paper.specs.Answer.{Judged, Answer, Formatted}
-use Rattle.ladder.specs.declared.Reply.{Reply}
+use Rattle.method_acts.specs.declared.Reply.{Reply}
 
 -- A status, the store and the reply after a call.
 abbrev pub told : ℕ → List ℕ → List ℕ → Answer

@@ -1,12 +1,12 @@
 // The token's two functions: a store is formatted, a call is answered. Both take any bytes. The meaning is that of the paper's Answer.
 // Whatever is refused before the method is known, or before its session is found open, leaves the store as it is.
-use ladder::Reply;
-use ladder::bare;
-use ladder::both;
-use ladder::fault;
-use records::Choice;
-use slices::byte_at;
-use slices::four_at;
+use method_acts::Reply;
+use method_acts::bare;
+use method_acts::both;
+use method_acts::fault;
+use store_records::Choice;
+use store_records::byte_at;
+use store_records::four_at;
 ghost use mathlib.Core.Path.{_≡_};
 ghost use mathlib.Core.Bool.{true};
 ghost use mathlib.Core.List.{_∷_, map};
@@ -18,9 +18,9 @@ ghost use Rattle.paper.specs.Calls.{method};
 ghost use Rattle.paper.specs.Records.{records, zeros};
 ghost use Rattle.paper.specs.Sound.{sound as isSound};
 ghost use Rattle.paper.specs.Answer.{isOpen, earlyFaults, sessionStep, userStep, step as stepOf, judged, answer, freshCounter, formatted};
-ghost use Rattle.records.specs.View.{Becomes};
-ghost use Rattle.ladder.specs.Rungs.{status};
-ghost use Rattle.ladder.specs.Answers.{Answers, bareReply};
+ghost use Rattle.store_records.specs.View.{Becomes};
+ghost use Rattle.method_acts.specs.Rungs.{status};
+ghost use Rattle.method_acts.specs.Answers.{Answers, bareReply};
 ghost use Rattle.token.specs.Said.{known, told, made};
 
 // The counter of session numbers at 1.
@@ -40,7 +40,7 @@ fn clear(s: &mut [u8])
     let n = s.len() / 256;
     let mut i: usize = 0;
     while i < n {
-        edits::free_at(s, i);
+        store_edits::free_at(s, i);
         i += 1;
     }
 }
@@ -49,29 +49,29 @@ fn clear(s: &mut [u8])
 pub fn format(store: &mut [u8]) -> u8
     ensures { λ r. ⌜ made r (now (store .exit)) ≡ formatted (now (store .entry)) ⌝ }
 {
-    if !sound::length_fits(store) {
+    if !sound_store::length_fits(store) {
         return 19;
     }
     clear(store);
     let r = counter();
-    edits::put(store, 0, &r);
+    store_edits::put(store, 0, &r);
     0
 }
 
 fn is_open(s: &[u8], t: u32) -> bool
     ensures { λ b. ⌜ b ≡ test (isOpen t (records (now (s .entry)))) ⌝ }
 {
-    byte_at(records::first(s, Choice::That(1, t, t)), 1) == 1
+    byte_at(store_records::first(s, Choice::That(1, t, t)), 1) == 1
 }
 
 // What is asked before the method: a sound store, a method and a length that there are, an open session.
 fn early(s: &[u8], c: &[u8]) -> u8
     ensures { λ r. ⌜ r ≡ status (earlyFaults (now (s .entry)) (now (c .entry))) ⌝ }
 {
-    let n1 = fault(0, !sound::is_sound(s), 19);
-    let n2 = fault(n1, !form::is_known(c), 16);
+    let n1 = fault(0, !sound_store::is_sound(s), 19);
+    let n2 = fault(n1, !call_form::is_known(c), 16);
     let closed = !is_open(s, four_at(c, 1));
-    fault(n2, both(form::is_session_call(c), closed), 5)
+    fault(n2, both(call_form::is_session_call(c), closed), 5)
 }
 
 // The calls that make something in a session, by their method.
@@ -81,21 +81,21 @@ fn make_step<'a>(s: &mut [u8], c: &'a [u8], chip: &'a [u8]) -> Reply
 {
     let m = byte_at(c, 0);
     if m == 8 {
-        return policies::make_puk(s, c, chip);
+        return method_policies::make_puk(s, c, chip);
     }
     if m == 9 {
-        return policies::make_policy(s, c, chip);
+        return method_policies::make_policy(s, c, chip);
     }
     if m == 10 {
-        return keys::make_key(s, c, chip);
+        return method_keys::make_key(s, c, chip);
     }
     if m == 12 {
-        return certs::set_path(s, c, chip);
+        return method_keys::set_path(s, c, chip);
     }
     if m == 50 {
-        return posting::post_delete(s, c, chip);
+        return method_posts::post_delete(s, c, chip);
     }
-    posting::post_unlock(s, c, chip)
+    method_posts::post_unlock(s, c, chip)
 }
 
 // The calls of a session: it is ended, or something is made in it. The two stand apart so that a close, which calls deepest, does not have
@@ -106,10 +106,10 @@ fn session_step<'a>(s: &mut [u8], c: &'a [u8], chip: &'a [u8]) -> Reply
 {
     let m = byte_at(c, 0);
     if m == 3 {
-        return session_end::close(s, c, chip);
+        return method_session::close(s, c, chip);
     }
     if m == 5 {
-        return session_end::abort(s, c, chip);
+        return method_session::abort(s, c, chip);
     }
     make_step(s, c, chip)
 }
@@ -121,26 +121,26 @@ fn user_step(s: &mut [u8], c: &[u8], chip: &[u8]) -> u8
 {
     let m = byte_at(c, 0);
     if m == 80 {
-        return users::delete(s, c, chip);
+        return method_users::delete(s, c, chip);
     }
     if m == 82 {
-        return users::unlock(s, c, chip);
+        return method_users::unlock(s, c, chip);
     }
     if m == 83 {
-        return users::change(s, c, chip);
+        return method_users::change(s, c, chip);
     }
-    users::use_key(s, c, chip)
+    method_users::use_key(s, c, chip)
 }
 
 fn step<'a>(s: &mut [u8], c: &'a [u8], chip: &'a [u8]) -> Reply
     requires { ⌜ isSound (now s) ≡ true ⌝ }
     ensures { λ r. ⌜ Answers (stepOf (now (c .entry)) (now (chip .entry)) (records (now (s .entry)))) r (now (s .entry)) (now (s .exit)) ⌝ }
 {
-    if form::is_session_call(c) {
+    if call_form::is_session_call(c) {
         return session_step(s, c, chip);
     }
     if byte_at(c, 0) == 2 {
-        return session_start::create(s, c, chip);
+        return method_session::create(s, c, chip);
     }
     bare(user_step(s, c, chip))
 }
@@ -194,7 +194,7 @@ pub fn call<'a>(store: &mut [u8], call: &'a [u8], chip: &'a [u8], reply: &mut [u
 pub extern "C" fn sks_sound(store: &[u8]) -> bool
     ensures { λ b. ⌜ b ≡ isSound (now (store .entry)) ⌝ }
 {
-    sound::is_sound(store)
+    sound_store::is_sound(store)
 }
 
 #[no_mangle]

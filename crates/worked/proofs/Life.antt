@@ -12,11 +12,11 @@ use Rattle.paper.specs.Bytes.{byte, two, four, part, over, stringAt, behind, te
 use Rattle.paper.specs.Closing.{stale, effect, holds, shut, sealed, closing, carryOut, closedLiterally}
 use Rattle.paper.specs.Form.{only}
 use Rattle.paper.specs.Mac.{macUnder}
-use Rattle.paper.specs.Objects.{pukRecord, makePuk, policyRecord, makePolicy, keyRecord, makeKey, certified, setPath}
+use Rattle.paper.specs.Objects.{pukRecord, policyRecord, keyRecord, certified, makePolicyBy, makePukBy, makeKeyBy, setPathBy}
 use Rattle.paper.specs.Pin.{pinCheck, pukCheck, clear, addOne, pinMissed, pinHit, pukMissed, pukHit}
-use Rattle.paper.specs.Posting.{look, pendingRecord, postAs}
+use Rattle.paper.specs.Posting.{look, pendingRecord, postBy}
 use Rattle.paper.specs.Records.{recordsOf, records, joined, at, block, zeros, isFree}
-use Rattle.paper.specs.Sessions.{sessionRecord, counted, createSession, closeSession, abortSession}
+use Rattle.paper.specs.Sessions.{sessionRecord, counted, createSession, abortSession, closeBy}
 use Rattle.paper.specs.Sound.{lengthFits, sound}
 use Rattle.paper.specs.Table.{obeysTable}
 use Rattle.paper.specs.Text.{alphanumeric, utf8From, formatFits, twoEqualFrom, threeEqualFrom, risingFrom, fallingFrom, patternFits, pinFits}
@@ -50,7 +50,7 @@ pub step-1 : answers store-0 call-1
     "000102030405060708090a0b0c0d0e0f101112131415161718191a1b1c1d1e1f00024331"
     "00000100000000000000000000000000000000000000000000000000000000000000000000"
     store-1
-unfolding zerosFor padded initial wordAt mixed nextWord schedule T1 T2 round rounds sums compressed after SHA256 filled keyBlock xored HMAC same perform moved advance sessionAct sessionStep userStep step judged written answer freshCounter formatted byte two four part over stringAt behind textAt allWithin stale effect holds shut sealed closing carryOut closedLiterally only macUnder pukRecord makePuk policyRecord makePolicy keyRecord makeKey certified setPath pinCheck pukCheck clear addOne pinMissed pinHit pukMissed pukHit look pendingRecord postAs recordsOf records joined at block zeros isFree sessionRecord counted createSession closeSession abortSession lengthFits sound obeysTable alphanumeric utf8From formatFits twoEqualFrom threeEqualFrom risingFrom fallingFrom patternFits pinFits deleteKey unlockKey newPin changed changePin useKey
+unfolding zerosFor padded initial wordAt mixed nextWord schedule T1 T2 round rounds sums compressed after SHA256 filled keyBlock xored HMAC same perform moved advance sessionAct sessionStep userStep step judged written answer freshCounter formatted byte two four part over stringAt behind textAt allWithin stale effect holds shut sealed closing carryOut closedLiterally only macUnder pukRecord makePukBy policyRecord makePolicyBy keyRecord makeKeyBy certified setPathBy pinCheck pukCheck clear addOne pinMissed pinHit pukMissed pukHit look pendingRecord postBy recordsOf records joined at block zeros isFree sessionRecord counted createSession closeBy abortSession lengthFits sound obeysTable alphanumeric utf8From formatFits twoEqualFrom threeEqualFrom risingFrom fallingFrom patternFits pinFits deleteKey unlockKey newPin changed changePin useKey
 step-1 = refl
 
 -- a PUK
@@ -70,7 +70,7 @@ pub step-2 : answers store-1 call-2
     "3132333435363738"
     "00000100010000000000000000000000000000000000000000000000000000000000000000"
     store-2
-unfolding zerosFor padded initial wordAt mixed nextWord schedule T1 T2 round rounds sums compressed after SHA256 filled keyBlock xored HMAC same perform moved advance sessionAct sessionStep userStep step judged written answer freshCounter formatted byte two four part over stringAt behind textAt allWithin stale effect holds shut sealed closing carryOut closedLiterally only macUnder pukRecord makePuk policyRecord makePolicy keyRecord makeKey certified setPath pinCheck pukCheck clear addOne pinMissed pinHit pukMissed pukHit look pendingRecord postAs recordsOf records joined at block zeros isFree sessionRecord counted createSession closeSession abortSession lengthFits sound obeysTable alphanumeric utf8From formatFits twoEqualFrom threeEqualFrom risingFrom fallingFrom patternFits pinFits deleteKey unlockKey newPin changed changePin useKey
+unfolding zerosFor padded initial wordAt mixed nextWord schedule T1 T2 round rounds sums compressed after SHA256 filled keyBlock xored HMAC same perform moved advance sessionAct sessionStep userStep step judged written answer freshCounter formatted byte two four part over stringAt behind textAt allWithin stale effect holds shut sealed closing carryOut closedLiterally only macUnder pukRecord makePukBy policyRecord makePolicyBy keyRecord makeKeyBy certified setPathBy pinCheck pukCheck clear addOne pinMissed pinHit pukMissed pukHit look pendingRecord postBy recordsOf records joined at block zeros isFree sessionRecord counted createSession closeBy abortSession lengthFits sound obeysTable alphanumeric utf8From formatFits twoEqualFrom threeEqualFrom risingFrom fallingFrom patternFits pinFits deleteKey unlockKey newPin changed changePin useKey
 step-2 = refl
 
 -- a PIN policy under it
@@ -90,7 +90,7 @@ pub step-3 : answers store-2 call-3
     ""
     "00000100020000000000000000000000000000000000000000000000000000000000000000"
     store-3
-unfolding zerosFor padded initial wordAt mixed nextWord schedule T1 T2 round rounds sums compressed after SHA256 filled keyBlock xored HMAC same perform moved advance sessionAct sessionStep userStep step judged written answer freshCounter formatted byte two four part over stringAt behind textAt allWithin stale effect holds shut sealed closing carryOut closedLiterally only macUnder pukRecord makePuk policyRecord makePolicy keyRecord makeKey certified setPath pinCheck pukCheck clear addOne pinMissed pinHit pukMissed pukHit look pendingRecord postAs recordsOf records joined at block zeros isFree sessionRecord counted createSession closeSession abortSession lengthFits sound obeysTable alphanumeric utf8From formatFits twoEqualFrom threeEqualFrom risingFrom fallingFrom patternFits pinFits deleteKey unlockKey newPin changed changePin useKey
+unfolding zerosFor padded initial wordAt mixed nextWord schedule T1 T2 round rounds sums compressed after SHA256 filled keyBlock xored HMAC same perform moved advance sessionAct sessionStep userStep step judged written answer freshCounter formatted byte two four part over stringAt behind textAt allWithin stale effect holds shut sealed closing carryOut closedLiterally only macUnder pukRecord makePukBy policyRecord makePolicyBy keyRecord makeKeyBy certified setPathBy pinCheck pukCheck clear addOne pinMissed pinHit pukMissed pukHit look pendingRecord postBy recordsOf records joined at block zeros isFree sessionRecord counted createSession closeBy abortSession lengthFits sound obeysTable alphanumeric utf8From formatFits twoEqualFrom threeEqualFrom risingFrom fallingFrom patternFits pinFits deleteKey unlockKey newPin changed changePin useKey
 step-3 = refl
 
 -- a key under that, with a PIN that the user chose
@@ -110,7 +110,7 @@ pub step-4 : answers store-3 call-4
     "000e5055424c49432d4b45592d4f4e450000"
     "00000100031b824a04305ad77e795df31c9b1801b776143e27e331f49cecb1f81597f8e78d"
     store-4
-unfolding zerosFor padded initial wordAt mixed nextWord schedule T1 T2 round rounds sums compressed after SHA256 filled keyBlock xored HMAC same perform moved advance sessionAct sessionStep userStep step judged written answer freshCounter formatted byte two four part over stringAt behind textAt allWithin stale effect holds shut sealed closing carryOut closedLiterally only macUnder pukRecord makePuk policyRecord makePolicy keyRecord makeKey certified setPath pinCheck pukCheck clear addOne pinMissed pinHit pukMissed pukHit look pendingRecord postAs recordsOf records joined at block zeros isFree sessionRecord counted createSession closeSession abortSession lengthFits sound obeysTable alphanumeric utf8From formatFits twoEqualFrom threeEqualFrom risingFrom fallingFrom patternFits pinFits deleteKey unlockKey newPin changed changePin useKey
+unfolding zerosFor padded initial wordAt mixed nextWord schedule T1 T2 round rounds sums compressed after SHA256 filled keyBlock xored HMAC same perform moved advance sessionAct sessionStep userStep step judged written answer freshCounter formatted byte two four part over stringAt behind textAt allWithin stale effect holds shut sealed closing carryOut closedLiterally only macUnder pukRecord makePukBy policyRecord makePolicyBy keyRecord makeKeyBy certified setPathBy pinCheck pukCheck clear addOne pinMissed pinHit pukMissed pukHit look pendingRecord postBy recordsOf records joined at block zeros isFree sessionRecord counted createSession closeBy abortSession lengthFits sound obeysTable alphanumeric utf8From formatFits twoEqualFrom threeEqualFrom risingFrom fallingFrom patternFits pinFits deleteKey unlockKey newPin changed changePin useKey
 step-4 = refl
 
 -- its certificate path
@@ -130,7 +130,7 @@ pub step-5 : answers store-4 call-5
     ""
     "00000000000000000000000000000000000000000000000000000000000000000000000000"
     store-5
-unfolding zerosFor padded initial wordAt mixed nextWord schedule T1 T2 round rounds sums compressed after SHA256 filled keyBlock xored HMAC same perform moved advance sessionAct sessionStep userStep step judged written answer freshCounter formatted byte two four part over stringAt behind textAt allWithin stale effect holds shut sealed closing carryOut closedLiterally only macUnder pukRecord makePuk policyRecord makePolicy keyRecord makeKey certified setPath pinCheck pukCheck clear addOne pinMissed pinHit pukMissed pukHit look pendingRecord postAs recordsOf records joined at block zeros isFree sessionRecord counted createSession closeSession abortSession lengthFits sound obeysTable alphanumeric utf8From formatFits twoEqualFrom threeEqualFrom risingFrom fallingFrom patternFits pinFits deleteKey unlockKey newPin changed changePin useKey
+unfolding zerosFor padded initial wordAt mixed nextWord schedule T1 T2 round rounds sums compressed after SHA256 filled keyBlock xored HMAC same perform moved advance sessionAct sessionStep userStep step judged written answer freshCounter formatted byte two four part over stringAt behind textAt allWithin stale effect holds shut sealed closing carryOut closedLiterally only macUnder pukRecord makePukBy policyRecord makePolicyBy keyRecord makeKeyBy certified setPathBy pinCheck pukCheck clear addOne pinMissed pinHit pukMissed pukHit look pendingRecord postBy recordsOf records joined at block zeros isFree sessionRecord counted createSession closeBy abortSession lengthFits sound obeysTable alphanumeric utf8From formatFits twoEqualFrom threeEqualFrom risingFrom fallingFrom patternFits pinFits deleteKey unlockKey newPin changed changePin useKey
 step-5 = refl
 
 -- the session closes
@@ -150,5 +150,5 @@ pub step-6 : answers store-5 call-6
     ""
     "0000000000a5d1d288c53ba6017f2d7addd17640e49ef51fcefa8a4ff085594d5506a7cf49"
     store-6
-unfolding zerosFor padded initial wordAt mixed nextWord schedule T1 T2 round rounds sums compressed after SHA256 filled keyBlock xored HMAC same perform moved advance sessionAct sessionStep userStep step judged written answer freshCounter formatted byte two four part over stringAt behind textAt allWithin stale effect holds shut sealed closing carryOut closedLiterally only macUnder pukRecord makePuk policyRecord makePolicy keyRecord makeKey certified setPath pinCheck pukCheck clear addOne pinMissed pinHit pukMissed pukHit look pendingRecord postAs recordsOf records joined at block zeros isFree sessionRecord counted createSession closeSession abortSession lengthFits sound obeysTable alphanumeric utf8From formatFits twoEqualFrom threeEqualFrom risingFrom fallingFrom patternFits pinFits deleteKey unlockKey newPin changed changePin useKey
+unfolding zerosFor padded initial wordAt mixed nextWord schedule T1 T2 round rounds sums compressed after SHA256 filled keyBlock xored HMAC same perform moved advance sessionAct sessionStep userStep step judged written answer freshCounter formatted byte two four part over stringAt behind textAt allWithin stale effect holds shut sealed closing carryOut closedLiterally only macUnder pukRecord makePukBy policyRecord makePolicyBy keyRecord makeKeyBy certified setPathBy pinCheck pukCheck clear addOne pinMissed pinHit pukMissed pukHit look pendingRecord postBy recordsOf records joined at block zeros isFree sessionRecord counted createSession closeBy abortSession lengthFits sound obeysTable alphanumeric utf8From formatFits twoEqualFrom threeEqualFrom risingFrom fallingFrom patternFits pinFits deleteKey unlockKey newPin changed changePin useKey
 step-6 = refl

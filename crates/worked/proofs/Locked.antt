@@ -12,11 +12,11 @@ use Rattle.paper.specs.Bytes.{byte, two, four, part, over, stringAt, behind, te
 use Rattle.paper.specs.Closing.{stale, effect, holds, shut, sealed, closing, carryOut, closedLiterally}
 use Rattle.paper.specs.Form.{only}
 use Rattle.paper.specs.Mac.{macUnder}
-use Rattle.paper.specs.Objects.{pukRecord, makePuk, policyRecord, makePolicy, keyRecord, makeKey, certified, setPath}
+use Rattle.paper.specs.Objects.{pukRecord, policyRecord, keyRecord, certified, makePolicyBy, makePukBy, makeKeyBy, setPathBy}
 use Rattle.paper.specs.Pin.{pinCheck, pukCheck, clear, addOne, pinMissed, pinHit, pukMissed, pukHit}
-use Rattle.paper.specs.Posting.{look, pendingRecord, postAs}
+use Rattle.paper.specs.Posting.{look, pendingRecord, postBy}
 use Rattle.paper.specs.Records.{recordsOf, records, joined, at, block, zeros, isFree}
-use Rattle.paper.specs.Sessions.{sessionRecord, counted, createSession, closeSession, abortSession}
+use Rattle.paper.specs.Sessions.{sessionRecord, counted, createSession, abortSession, closeBy}
 use Rattle.paper.specs.Sound.{lengthFits, sound}
 use Rattle.paper.specs.Table.{obeysTable}
 use Rattle.paper.specs.Text.{alphanumeric, utf8From, formatFits, twoEqualFrom, threeEqualFrom, risingFrom, fallingFrom, patternFits, pinFits}
@@ -48,7 +48,7 @@ pub step-1 : answers store-0 call-1
     ""
     "01000000000000000000000000000000000000000000000000000000000000000000000000"
     store-1
-unfolding zerosFor padded initial wordAt mixed nextWord schedule T1 T2 round rounds sums compressed after SHA256 filled keyBlock xored HMAC same perform moved advance sessionAct sessionStep userStep step judged written answer freshCounter formatted byte two four part over stringAt behind textAt allWithin stale effect holds shut sealed closing carryOut closedLiterally only macUnder pukRecord makePuk policyRecord makePolicy keyRecord makeKey certified setPath pinCheck pukCheck clear addOne pinMissed pinHit pukMissed pukHit look pendingRecord postAs recordsOf records joined at block zeros isFree sessionRecord counted createSession closeSession abortSession lengthFits sound obeysTable alphanumeric utf8From formatFits twoEqualFrom threeEqualFrom risingFrom fallingFrom patternFits pinFits deleteKey unlockKey newPin changed changePin useKey
+unfolding zerosFor padded initial wordAt mixed nextWord schedule T1 T2 round rounds sums compressed after SHA256 filled keyBlock xored HMAC same perform moved advance sessionAct sessionStep userStep step judged written answer freshCounter formatted byte two four part over stringAt behind textAt allWithin stale effect holds shut sealed closing carryOut closedLiterally only macUnder pukRecord makePukBy policyRecord makePolicyBy keyRecord makeKeyBy certified setPathBy pinCheck pukCheck clear addOne pinMissed pinHit pukMissed pukHit look pendingRecord postBy recordsOf records joined at block zeros isFree sessionRecord counted createSession closeBy abortSession lengthFits sound obeysTable alphanumeric utf8From formatFits twoEqualFrom threeEqualFrom risingFrom fallingFrom patternFits pinFits deleteKey unlockKey newPin changed changePin useKey
 step-1 = refl
 
 -- the right one clears the count
@@ -67,7 +67,7 @@ pub step-2 : answers store-1 call-2
     ""
     "00000000000000000000000000000000000000000000000000000000000000000000000000"
     store-2
-unfolding zerosFor padded initial wordAt mixed nextWord schedule T1 T2 round rounds sums compressed after SHA256 filled keyBlock xored HMAC same perform moved advance sessionAct sessionStep userStep step judged written answer freshCounter formatted byte two four part over stringAt behind textAt allWithin stale effect holds shut sealed closing carryOut closedLiterally only macUnder pukRecord makePuk policyRecord makePolicy keyRecord makeKey certified setPath pinCheck pukCheck clear addOne pinMissed pinHit pukMissed pukHit look pendingRecord postAs recordsOf records joined at block zeros isFree sessionRecord counted createSession closeSession abortSession lengthFits sound obeysTable alphanumeric utf8From formatFits twoEqualFrom threeEqualFrom risingFrom fallingFrom patternFits pinFits deleteKey unlockKey newPin changed changePin useKey
+unfolding zerosFor padded initial wordAt mixed nextWord schedule T1 T2 round rounds sums compressed after SHA256 filled keyBlock xored HMAC same perform moved advance sessionAct sessionStep userStep step judged written answer freshCounter formatted byte two four part over stringAt behind textAt allWithin stale effect holds shut sealed closing carryOut closedLiterally only macUnder pukRecord makePukBy policyRecord makePolicyBy keyRecord makeKeyBy certified setPathBy pinCheck pukCheck clear addOne pinMissed pinHit pukMissed pukHit look pendingRecord postBy recordsOf records joined at block zeros isFree sessionRecord counted createSession closeBy abortSession lengthFits sound obeysTable alphanumeric utf8From formatFits twoEqualFrom threeEqualFrom risingFrom fallingFrom patternFits pinFits deleteKey unlockKey newPin changed changePin useKey
 step-2 = refl
 
 -- a wrong PIN
@@ -86,7 +86,7 @@ pub step-3 : answers store-2 call-3
     ""
     "01000000000000000000000000000000000000000000000000000000000000000000000000"
     store-3
-unfolding zerosFor padded initial wordAt mixed nextWord schedule T1 T2 round rounds sums compressed after SHA256 filled keyBlock xored HMAC same perform moved advance sessionAct sessionStep userStep step judged written answer freshCounter formatted byte two four part over stringAt behind textAt allWithin stale effect holds shut sealed closing carryOut closedLiterally only macUnder pukRecord makePuk policyRecord makePolicy keyRecord makeKey certified setPath pinCheck pukCheck clear addOne pinMissed pinHit pukMissed pukHit look pendingRecord postAs recordsOf records joined at block zeros isFree sessionRecord counted createSession closeSession abortSession lengthFits sound obeysTable alphanumeric utf8From formatFits twoEqualFrom threeEqualFrom risingFrom fallingFrom patternFits pinFits deleteKey unlockKey newPin changed changePin useKey
+unfolding zerosFor padded initial wordAt mixed nextWord schedule T1 T2 round rounds sums compressed after SHA256 filled keyBlock xored HMAC same perform moved advance sessionAct sessionStep userStep step judged written answer freshCounter formatted byte two four part over stringAt behind textAt allWithin stale effect holds shut sealed closing carryOut closedLiterally only macUnder pukRecord makePukBy policyRecord makePolicyBy keyRecord makeKeyBy certified setPathBy pinCheck pukCheck clear addOne pinMissed pinHit pukMissed pukHit look pendingRecord postBy recordsOf records joined at block zeros isFree sessionRecord counted createSession closeBy abortSession lengthFits sound obeysTable alphanumeric utf8From formatFits twoEqualFrom threeEqualFrom risingFrom fallingFrom patternFits pinFits deleteKey unlockKey newPin changed changePin useKey
 step-3 = refl
 
 -- and another
@@ -105,7 +105,7 @@ pub step-4 : answers store-3 call-4
     ""
     "01000000000000000000000000000000000000000000000000000000000000000000000000"
     store-4
-unfolding zerosFor padded initial wordAt mixed nextWord schedule T1 T2 round rounds sums compressed after SHA256 filled keyBlock xored HMAC same perform moved advance sessionAct sessionStep userStep step judged written answer freshCounter formatted byte two four part over stringAt behind textAt allWithin stale effect holds shut sealed closing carryOut closedLiterally only macUnder pukRecord makePuk policyRecord makePolicy keyRecord makeKey certified setPath pinCheck pukCheck clear addOne pinMissed pinHit pukMissed pukHit look pendingRecord postAs recordsOf records joined at block zeros isFree sessionRecord counted createSession closeSession abortSession lengthFits sound obeysTable alphanumeric utf8From formatFits twoEqualFrom threeEqualFrom risingFrom fallingFrom patternFits pinFits deleteKey unlockKey newPin changed changePin useKey
+unfolding zerosFor padded initial wordAt mixed nextWord schedule T1 T2 round rounds sums compressed after SHA256 filled keyBlock xored HMAC same perform moved advance sessionAct sessionStep userStep step judged written answer freshCounter formatted byte two four part over stringAt behind textAt allWithin stale effect holds shut sealed closing carryOut closedLiterally only macUnder pukRecord makePukBy policyRecord makePolicyBy keyRecord makeKeyBy certified setPathBy pinCheck pukCheck clear addOne pinMissed pinHit pukMissed pukHit look pendingRecord postBy recordsOf records joined at block zeros isFree sessionRecord counted createSession closeBy abortSession lengthFits sound obeysTable alphanumeric utf8From formatFits twoEqualFrom threeEqualFrom risingFrom fallingFrom patternFits pinFits deleteKey unlockKey newPin changed changePin useKey
 step-4 = refl
 
 -- the third locks the key
@@ -124,7 +124,7 @@ pub step-5 : answers store-4 call-5
     ""
     "01000000000000000000000000000000000000000000000000000000000000000000000000"
     store-5
-unfolding zerosFor padded initial wordAt mixed nextWord schedule T1 T2 round rounds sums compressed after SHA256 filled keyBlock xored HMAC same perform moved advance sessionAct sessionStep userStep step judged written answer freshCounter formatted byte two four part over stringAt behind textAt allWithin stale effect holds shut sealed closing carryOut closedLiterally only macUnder pukRecord makePuk policyRecord makePolicy keyRecord makeKey certified setPath pinCheck pukCheck clear addOne pinMissed pinHit pukMissed pukHit look pendingRecord postAs recordsOf records joined at block zeros isFree sessionRecord counted createSession closeSession abortSession lengthFits sound obeysTable alphanumeric utf8From formatFits twoEqualFrom threeEqualFrom risingFrom fallingFrom patternFits pinFits deleteKey unlockKey newPin changed changePin useKey
+unfolding zerosFor padded initial wordAt mixed nextWord schedule T1 T2 round rounds sums compressed after SHA256 filled keyBlock xored HMAC same perform moved advance sessionAct sessionStep userStep step judged written answer freshCounter formatted byte two four part over stringAt behind textAt allWithin stale effect holds shut sealed closing carryOut closedLiterally only macUnder pukRecord makePukBy policyRecord makePolicyBy keyRecord makeKeyBy certified setPathBy pinCheck pukCheck clear addOne pinMissed pinHit pukMissed pukHit look pendingRecord postBy recordsOf records joined at block zeros isFree sessionRecord counted createSession closeBy abortSession lengthFits sound obeysTable alphanumeric utf8From formatFits twoEqualFrom threeEqualFrom risingFrom fallingFrom patternFits pinFits deleteKey unlockKey newPin changed changePin useKey
 step-5 = refl
 
 -- now the right one is refused, and nothing changes
@@ -143,7 +143,7 @@ pub step-6 : answers store-5 call-6
     ""
     "01000000000000000000000000000000000000000000000000000000000000000000000000"
     store-6
-unfolding zerosFor padded initial wordAt mixed nextWord schedule T1 T2 round rounds sums compressed after SHA256 filled keyBlock xored HMAC same perform moved advance sessionAct sessionStep userStep step judged written answer freshCounter formatted byte two four part over stringAt behind textAt allWithin stale effect holds shut sealed closing carryOut closedLiterally only macUnder pukRecord makePuk policyRecord makePolicy keyRecord makeKey certified setPath pinCheck pukCheck clear addOne pinMissed pinHit pukMissed pukHit look pendingRecord postAs recordsOf records joined at block zeros isFree sessionRecord counted createSession closeSession abortSession lengthFits sound obeysTable alphanumeric utf8From formatFits twoEqualFrom threeEqualFrom risingFrom fallingFrom patternFits pinFits deleteKey unlockKey newPin changed changePin useKey
+unfolding zerosFor padded initial wordAt mixed nextWord schedule T1 T2 round rounds sums compressed after SHA256 filled keyBlock xored HMAC same perform moved advance sessionAct sessionStep userStep step judged written answer freshCounter formatted byte two four part over stringAt behind textAt allWithin stale effect holds shut sealed closing carryOut closedLiterally only macUnder pukRecord makePukBy policyRecord makePolicyBy keyRecord makeKeyBy certified setPathBy pinCheck pukCheck clear addOne pinMissed pinHit pukMissed pukHit look pendingRecord postBy recordsOf records joined at block zeros isFree sessionRecord counted createSession closeBy abortSession lengthFits sound obeysTable alphanumeric utf8From formatFits twoEqualFrom threeEqualFrom risingFrom fallingFrom patternFits pinFits deleteKey unlockKey newPin changed changePin useKey
 step-6 = refl
 
 -- a wrong PUK is counted, at the PUK
@@ -162,7 +162,7 @@ pub step-7 : answers store-6 call-7
     ""
     "01000000000000000000000000000000000000000000000000000000000000000000000000"
     store-7
-unfolding zerosFor padded initial wordAt mixed nextWord schedule T1 T2 round rounds sums compressed after SHA256 filled keyBlock xored HMAC same perform moved advance sessionAct sessionStep userStep step judged written answer freshCounter formatted byte two four part over stringAt behind textAt allWithin stale effect holds shut sealed closing carryOut closedLiterally only macUnder pukRecord makePuk policyRecord makePolicy keyRecord makeKey certified setPath pinCheck pukCheck clear addOne pinMissed pinHit pukMissed pukHit look pendingRecord postAs recordsOf records joined at block zeros isFree sessionRecord counted createSession closeSession abortSession lengthFits sound obeysTable alphanumeric utf8From formatFits twoEqualFrom threeEqualFrom risingFrom fallingFrom patternFits pinFits deleteKey unlockKey newPin changed changePin useKey
+unfolding zerosFor padded initial wordAt mixed nextWord schedule T1 T2 round rounds sums compressed after SHA256 filled keyBlock xored HMAC same perform moved advance sessionAct sessionStep userStep step judged written answer freshCounter formatted byte two four part over stringAt behind textAt allWithin stale effect holds shut sealed closing carryOut closedLiterally only macUnder pukRecord makePukBy policyRecord makePolicyBy keyRecord makeKeyBy certified setPathBy pinCheck pukCheck clear addOne pinMissed pinHit pukMissed pukHit look pendingRecord postBy recordsOf records joined at block zeros isFree sessionRecord counted createSession closeBy abortSession lengthFits sound obeysTable alphanumeric utf8From formatFits twoEqualFrom threeEqualFrom risingFrom fallingFrom patternFits pinFits deleteKey unlockKey newPin changed changePin useKey
 step-7 = refl
 
 -- the right PUK unlocks
@@ -181,5 +181,5 @@ pub step-8 : answers store-7 call-8
     ""
     "00000000000000000000000000000000000000000000000000000000000000000000000000"
     store-8
-unfolding zerosFor padded initial wordAt mixed nextWord schedule T1 T2 round rounds sums compressed after SHA256 filled keyBlock xored HMAC same perform moved advance sessionAct sessionStep userStep step judged written answer freshCounter formatted byte two four part over stringAt behind textAt allWithin stale effect holds shut sealed closing carryOut closedLiterally only macUnder pukRecord makePuk policyRecord makePolicy keyRecord makeKey certified setPath pinCheck pukCheck clear addOne pinMissed pinHit pukMissed pukHit look pendingRecord postAs recordsOf records joined at block zeros isFree sessionRecord counted createSession closeSession abortSession lengthFits sound obeysTable alphanumeric utf8From formatFits twoEqualFrom threeEqualFrom risingFrom fallingFrom patternFits pinFits deleteKey unlockKey newPin changed changePin useKey
+unfolding zerosFor padded initial wordAt mixed nextWord schedule T1 T2 round rounds sums compressed after SHA256 filled keyBlock xored HMAC same perform moved advance sessionAct sessionStep userStep step judged written answer freshCounter formatted byte two four part over stringAt behind textAt allWithin stale effect holds shut sealed closing carryOut closedLiterally only macUnder pukRecord makePukBy policyRecord makePolicyBy keyRecord makeKeyBy certified setPathBy pinCheck pukCheck clear addOne pinMissed pinHit pukMissed pukHit look pendingRecord postBy recordsOf records joined at block zeros isFree sessionRecord counted createSession closeBy abortSession lengthFits sound obeysTable alphanumeric utf8From formatFits twoEqualFrom threeEqualFrom risingFrom fallingFrom patternFits pinFits deleteKey unlockKey newPin changed changePin useKey
 step-8 = refl

@@ -8,18 +8,6 @@ use Rattle.hmac.specs.Hmac.{xored, keyBlock, HMAC}
 use Rattle.hmac.proofs.finish.Statement.{statement}
 use Rattle.hmac.proofs.finish.Tie as tie
 
-finish-requires : tie.Need-finish-requires
-finish-requires c κs = search needs
-
-slice-aggregate-update : tie.Need-slice-aggregate-update
-slice-aggregate-update c = search needs
-
-update-requires : tie.Need-update-requires
-update-requires c κs = search needs
-
-finish-requires-2 : tie.Need-finish-requires-2
-finish-requires-2 c κs = search needs
-
 returns : tie.Need-returns
 unfolding HMAC
 returns c =
@@ -30,6 +18,4 @@ returns c =
     f ∙ ap (λ (x : List ℕ). SHA256 (xored 0x5c (keyBlock k) ++ x)) e
 
 pub finish-spec : {M : Type 1} → statement M
-finish-spec =
-    tie.close
-    (tie.spec finish-requires slice-aggregate-update update-requires finish-requires-2 returns)
+finish-spec = tie.close (tie.spec (λ c κs. search needs) (λ c. search needs) (λ c κs. search needs) (λ c κs. search needs) returns)

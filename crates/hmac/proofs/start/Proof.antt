@@ -8,33 +8,6 @@ use Rattle.sha256.specs.State.{Stands}
 use Rattle.hmac.proofs.start.Statement.{statement}
 use Rattle.hmac.proofs.start.Tie as tie
 
-key-block-requires : tie.Need-key-block-requires
-key-block-requires c κs = search needs
-
-xor-all-requires : tie.Need-xor-all-requires
-xor-all-requires c κs = search needs
-
-xor-all-requires-2 : tie.Need-xor-all-requires-2
-xor-all-requires-2 c κs = search needs
-
-start-requires : tie.Need-start-requires
-start-requires c κs = search needs
-
-slice-aggregate-update : tie.Need-slice-aggregate-update
-slice-aggregate-update c = search needs
-
-update-requires : tie.Need-update-requires
-update-requires c κs = search needs
-
-start-requires-2 : tie.Need-start-requires-2
-start-requires-2 c κs = search needs
-
-slice-aggregate-update-2 : tie.Need-slice-aggregate-update-2
-slice-aggregate-update-2 c = search needs
-
-update-requires-2 : tie.Need-update-requires-2
-update-requires-2 c κs = search needs
-
 returns : tie.Need-returns
 returns c =
     let k = c .before .before .before .before .before .before .before .before .key-block in
@@ -52,14 +25,5 @@ returns c =
 pub start-spec : {M : Type 1} → statement M
 start-spec =
     tie.close
-    (tie.spec
-    key-block-requires
-    xor-all-requires
-    xor-all-requires-2
-    start-requires
-    slice-aggregate-update
-    update-requires
-    start-requires-2
-    slice-aggregate-update-2
-    update-requires-2
-    returns)
+    (tie.spec (λ c κs. search needs) (λ c κs. search needs) (λ c κs. search needs) (λ c κs. search needs) (λ c. search needs) (λ c κs. search needs)
+    (λ c κs. search needs) (λ c. search needs) (λ c κs. search needs) returns)

@@ -4,9 +4,6 @@ use borrow.Author.Needs.{needs}
 use Rattle.hmac.proofs.update.Statement.{statement}
 use Rattle.hmac.proofs.update.Tie as tie
 
-update-requires : tie.Need-update-requires
-update-requires c κs = search needs
-
 returns : tie.Need-returns
 returns c =
     λ k text h.
@@ -16,4 +13,4 @@ returns c =
     }
 
 pub update-spec : {M : Type 1} → statement M
-update-spec = tie.close (tie.spec update-requires returns)
+update-spec = tie.close (tie.spec (λ c κs. search needs) returns)

@@ -10,12 +10,6 @@ use Rattle.sha256.proofs.Standing.{block-more, part-length}
 use Rattle.sha256.proofs.block.Statement.{statement}
 use Rattle.sha256.proofs.block.Tie as tie
 
-compress-requires : tie.Need-compress-requires
-compress-requires c κs = search needs
-
-wrapping-add-u64-requires : tie.Need-wrapping-add-u64-requires
-wrapping-add-u64-requires c κs = search needs
-
 returns : tie.Need-returns
 returns c =
     let a = c .before .before .before .before .before .args in
@@ -28,4 +22,4 @@ returns c =
     )
 
 pub block-spec : {M : Type 1} → statement M
-block-spec = tie.close (tie.spec compress-requires wrapping-add-u64-requires returns)
+block-spec = tie.close (tie.spec (λ c κs. search needs) (λ c κs. search needs) returns)

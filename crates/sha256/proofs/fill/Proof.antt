@@ -8,21 +8,6 @@ use Rattle.sha256.proofs.Standing.{stored-part, stored-full}
 use Rattle.sha256.proofs.fill.Statement.{statement}
 use Rattle.sha256.proofs.fill.Tie as tie
 
-stored-requires : tie.Need-stored-requires
-stored-requires c κs = search needs
-
-wrapping-add-u64-requires : tie.Need-wrapping-add-u64-requires
-wrapping-add-u64-requires c κs = search needs
-
-add-if1 : tie.Need-add-if1
-add-if1 c = search needs
-
-slice-aggregate-compress : tie.Need-slice-aggregate-compress
-slice-aggregate-compress c = search needs
-
-compress-requires : tie.Need-compress-requires
-compress-requires c κs = search needs
-
 returns : tie.Need-returns
 returns c =
     let a = c .before .before .before .before .before .before .before .before .args in
@@ -48,11 +33,4 @@ returns-2 c =
 pub fill-spec : {M : Type 1} → statement M
 fill-spec =
     tie.close
-    (tie.spec
-    stored-requires
-    wrapping-add-u64-requires
-    add-if1
-    slice-aggregate-compress
-    compress-requires
-    returns
-    returns-2)
+    (tie.spec (λ c κs. search needs) (λ c κs. search needs) (λ c. search needs) (λ c. search needs) (λ c κs. search needs) returns returns-2)

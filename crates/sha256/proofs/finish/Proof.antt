@@ -11,38 +11,8 @@ use Rattle.sha256.proofs.Padding.{pads, padded-is, hash-of}
 use Rattle.sha256.proofs.finish.Statement.{statement}
 use Rattle.sha256.proofs.finish.Tie as tie
 
-array-write-pad : tie.Need-array-write-pad
-array-write-pad c = search needs
-
-sub-n : tie.Need-sub-n
-sub-n c = search needs
-
-add-n : tie.Need-add-n
-add-n c = search needs
-
-array-share-prefix-pad : tie.Need-array-share-prefix-pad
-array-share-prefix-pad c = search needs
-
 slice-aggregate-update : tie.Need-slice-aggregate-update
 slice-aggregate-update c = sym (length-take-le ((119 - c .before .args .s .count % 64) % 64 + 1) _ (omega arith))
-
-update-requires : tie.Need-update-requires
-update-requires c κs = search needs
-
-mul-big-endian : tie.Need-mul-big-endian
-mul-big-endian c = search needs
-
-big-endian-requires : tie.Need-big-endian-requires
-big-endian-requires c κs = search needs
-
-slice-aggregate-update-2 : tie.Need-slice-aggregate-update-2
-slice-aggregate-update-2 c = search needs
-
-update-requires-2 : tie.Need-update-requires-2
-update-requires-2 c κs = search needs
-
-digest-of-requires : tie.Need-digest-of-requires
-digest-of-requires c κs = search needs
 
 returns : tie.Need-returns
 returns c =
@@ -57,16 +27,5 @@ returns c =
 pub finish-spec : {M : Type 1} → statement M
 finish-spec =
     tie.close
-    (tie.spec
-    array-write-pad
-    sub-n
-    add-n
-    array-share-prefix-pad
-    slice-aggregate-update
-    update-requires
-    mul-big-endian
-    big-endian-requires
-    slice-aggregate-update-2
-    update-requires-2
-    digest-of-requires
-    returns)
+    (tie.spec (λ c. search needs) (λ c. search needs) (λ c. search needs) (λ c. search needs) slice-aggregate-update (λ c κs. search needs)
+    (λ c. search needs) (λ c κs. search needs) (λ c. search needs) (λ c κs. search needs) (λ c κs. search needs) returns)

@@ -21,50 +21,17 @@ abbrev μ-loop : tie.MeasureT-loop
 loop-holds : tie.Need-loop-holds Inv-loop μ-loop
 loop-holds c = (omega arith, λ m h. rw append-nil h)
 
-sub-left : tie.Need-sub-left Inv-loop μ-loop
-sub-left c = search needs
-
-sub-room : tie.Need-sub-room Inv-loop μ-loop
-sub-room c = search needs
-
-fill-requires : tie.Need-fill-requires Inv-loop μ-loop
-fill-requires c κs = search needs
-
-add-i : tie.Need-add-i Inv-loop μ-loop
-add-i c = search needs
-
-loop-less : tie.Need-loop-less Inv-loop μ-loop
-loop-less c = search needs
-
 loop-again : tie.Need-loop-again Inv-loop μ-loop
 loop-again c =
     let l = c .before .before .before .before .loop in
     let d : List ℕ = now (c .before .before .before .before .before .before .args .d) in
     (omega arith, λ m h. rw (← more m d (l .i) (length d - l .i)) (c .fill .ensures .1 (m ++ take (l .i) d) (l .inv .1 m h)))
 
-block-requires : tie.Need-block-requires Inv-loop μ-loop
-block-requires c κs = search needs
-
-add-i-2 : tie.Need-add-i-2 Inv-loop μ-loop
-add-i-2 c = search needs
-
-loop-less-2 : tie.Need-loop-less-2 Inv-loop μ-loop
-loop-less-2 c = search needs
-
 loop-again-2 : tie.Need-loop-again-2 Inv-loop μ-loop
 loop-again-2 c =
     let l = c .before .before .before .before .before .loop in
     let d : List ℕ = now (c .before .before .before .before .before .before .before .args .d) in
     (omega arith, λ m h. rw (← more m d (l .i) 64) (c .block .ensures .1 (m ++ take (l .i) d) (l .inv .1 m h)))
-
-fill-requires-2 : tie.Need-fill-requires-2 Inv-loop μ-loop
-fill-requires-2 c κs = search needs
-
-add-i-3 : tie.Need-add-i-3 Inv-loop μ-loop
-add-i-3 c = search needs
-
-loop-less-3 : tie.Need-loop-less-3 Inv-loop μ-loop
-loop-less-3 c = search needs
 
 loop-again-3 : tie.Need-loop-again-3 Inv-loop μ-loop
 loop-again-3 c =
@@ -84,22 +51,6 @@ returns c =
 pub update-spec : {M : Type 1} → statement M
 update-spec =
     tie.close
-    (tie.spec
-    Inv-loop
-    μ-loop
-    loop-holds
-    sub-left
-    sub-room
-    fill-requires
-    add-i
-    loop-less
-    loop-again
-    block-requires
-    add-i-2
-    loop-less-2
-    loop-again-2
-    fill-requires-2
-    add-i-3
-    loop-less-3
-    loop-again-3
-    returns)
+    (tie.spec Inv-loop μ-loop loop-holds (λ c. search needs) (λ c. search needs) (λ c κs. search needs) (λ c. search needs) (λ c. search needs)
+    loop-again (λ c κs. search needs) (λ c. search needs) (λ c. search needs) loop-again-2 (λ c κs. search needs) (λ c. search needs)
+    (λ c. search needs) loop-again-3 returns)

@@ -3,7 +3,7 @@ use Prim.Native.Nat.{_-_, _/_}
 use lib.ListN.{length}
 use mathlib.Core.Path.{refl}
 use Rattle.paper.specs.Records.{zeros}
-use Rattle.edits.proofs.Todos.{Todo, todo-done, todo-step}
+use Rattle.store_edits.proofs.Todos.{Todo, todo-done, todo-step}
 use borrow.Author.Needs.{needs}
 use Rattle.token.proofs.clear.Statement.{statement}
 use Rattle.token.proofs.clear.Tie as tie
@@ -16,15 +16,6 @@ abbrev μ-loop : tie.MeasureT-loop
 
 loop-holds : tie.Need-loop-holds Inv-loop μ-loop
 loop-holds c = record { left = refl; tail = refl; same = refl }
-
-free-at-requires : tie.Need-free-at-requires Inv-loop μ-loop
-free-at-requires c κs = search needs
-
-add-i : tie.Need-add-i Inv-loop μ-loop
-add-i c = search needs
-
-loop-less : tie.Need-loop-less Inv-loop μ-loop
-loop-less c = search needs
 
 loop-again : tie.Need-loop-again Inv-loop μ-loop
 loop-again c =
@@ -42,13 +33,4 @@ returns c = todo-done (c .before .loop .inv) (c .loop-test .left)
 pub clear-spec : {M : Type 1} → statement M
 clear-spec =
     tie.close
-    (tie.spec
-    Inv-loop
-    μ-loop
-    loop-holds
-    free-at-requires
-    add-i
-    loop-less
-    loop-again
-    same-length
-    returns)
+    (tie.spec Inv-loop μ-loop loop-holds (λ c κs. search needs) (λ c. search needs) (λ c. search needs) loop-again same-length returns)

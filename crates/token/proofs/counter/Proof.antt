@@ -5,15 +5,9 @@ use borrow.Author.Needs.{needs}
 use Rattle.token.proofs.counter.Statement.{statement}
 use Rattle.token.proofs.counter.Tie as tie
 
-array-write-r : tie.Need-array-write-r
-array-write-r c = search needs
-
-array-write-r-2 : tie.Need-array-write-r-2
-array-write-r-2 c = search needs
-
 returns : tie.Need-returns
 unfolding freshCounter
 returns c = refl
 
 pub counter-spec : {M : Type 1} → statement M
-counter-spec = tie.close (tie.spec array-write-r array-write-r-2 returns)
+counter-spec = tie.close (tie.spec (λ c. search needs) (λ c. search needs) returns)

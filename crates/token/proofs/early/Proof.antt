@@ -1,37 +1,10 @@
 -- Rung by rung (`climbed`).
 use mathlib.Core.Path.{refl}
 use Rattle.paper.specs.Answer.{earlyFaults}
-use Rattle.ladder.proofs.Climbs.{climbed}
+use Rattle.method_acts.proofs.Climbs.{climbed}
 use borrow.Author.Needs.{needs}
 use Rattle.token.proofs.early.Statement.{statement}
 use Rattle.token.proofs.early.Tie as tie
-
-is-sound-requires : tie.Need-is-sound-requires
-is-sound-requires c κs = search needs
-
-fault-requires : tie.Need-fault-requires
-fault-requires c κs = search needs
-
-is-known-requires : tie.Need-is-known-requires
-is-known-requires c κs = search needs
-
-fault-requires-2 : tie.Need-fault-requires-2
-fault-requires-2 c κs = search needs
-
-four-at-requires : tie.Need-four-at-requires
-four-at-requires c κs = search needs
-
-is-open-requires : tie.Need-is-open-requires
-is-open-requires c κs = search needs
-
-is-session-call-requires : tie.Need-is-session-call-requires
-is-session-call-requires c κs = search needs
-
-both-requires : tie.Need-both-requires
-both-requires c κs = search needs
-
-fault-requires-3 : tie.Need-fault-requires-3
-fault-requires-3 c κs = search needs
 
 returns : tie.Need-returns
 returns c =
@@ -49,14 +22,5 @@ returns c =
 pub early-spec : {M : Type 1} → statement M
 early-spec =
     tie.close
-    (tie.spec
-    is-sound-requires
-    fault-requires
-    is-known-requires
-    fault-requires-2
-    four-at-requires
-    is-open-requires
-    is-session-call-requires
-    both-requires
-    fault-requires-3
-    returns)
+    (tie.spec (λ c κs. search needs) (λ c κs. search needs) (λ c κs. search needs) (λ c κs. search needs) (λ c κs. search needs)
+    (λ c κs. search needs) (λ c κs. search needs) (λ c κs. search needs) (λ c κs. search needs) returns)

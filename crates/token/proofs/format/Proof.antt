@@ -6,26 +6,8 @@ use borrow.Author.Needs.{needs}
 use Rattle.token.proofs.format.Statement.{statement}
 use Rattle.token.proofs.format.Tie as tie
 
-length-fits-requires : tie.Need-length-fits-requires
-length-fits-requires c κs = search needs
-
-same-length : tie.Need-same-length
-same-length c = search needs
-
 returns : tie.Need-returns
 returns c = formatted-not (c .before .before .before .before .args .store .now) (sym (c .before .length-fits .ensures) ∙ not-true _ (c .if1 .taken))
-
-clear-requires : tie.Need-clear-requires
-clear-requires c κs = search needs
-
-counter-requires : tie.Need-counter-requires
-counter-requires c κs = search needs
-
-put-requires : tie.Need-put-requires
-put-requires c κs = search needs
-
-same-length-2 : tie.Need-same-length-2
-same-length-2 c = search needs
 
 returns-2 : tie.Need-returns-2
 returns-2 c =
@@ -40,12 +22,5 @@ returns-2 c =
 pub format-spec : {M : Type 1} → statement M
 format-spec =
     tie.close
-    (tie.spec
-    length-fits-requires
-    same-length
-    returns
-    clear-requires
-    counter-requires
-    put-requires
-    same-length-2
-    returns-2)
+    (tie.spec (λ c κs. search needs) (λ c. search needs) returns (λ c κs. search needs) (λ c κs. search needs) (λ c κs. search needs)
+    (λ c. search needs) returns-2)

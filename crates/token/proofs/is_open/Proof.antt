@@ -5,15 +5,9 @@ use borrow.Author.Needs.{needs}
 use Rattle.token.proofs.is_open.Statement.{statement}
 use Rattle.token.proofs.is_open.Tie as tie
 
-first-requires : tie.Need-first-requires
-first-requires c κs = search needs
-
-byte-at-requires : tie.Need-byte-at-requires
-byte-at-requires c κs = search needs
-
 returns : tie.Need-returns
 unfolding at
 returns c = rw (c .byte-at .ensures, c .before .first .ensures) refl
 
 pub is-open-spec : {M : Type 1} → statement M
-is-open-spec = tie.close (tie.spec first-requires byte-at-requires returns)
+is-open-spec = tie.close (tie.spec (λ c κs. search needs) (λ c κs. search needs) returns)

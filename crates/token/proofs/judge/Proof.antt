@@ -4,15 +4,6 @@ use borrow.Author.Needs.{needs}
 use Rattle.token.proofs.judge.Statement.{statement}
 use Rattle.token.proofs.judge.Tie as tie
 
-early-requires : tie.Need-early-requires
-early-requires c κs = search needs
-
-bare-requires : tie.Need-bare-requires
-bare-requires c κs = search needs
-
-same-length : tie.Need-same-length
-same-length c = search needs
-
 returns : tie.Need-returns
 returns c =
     let args = c .before .before .before .before .before .before .before .args in
@@ -27,9 +18,6 @@ step-requires c κs =
     let if1 = c .before .if1 in
     was-sound (args .s .now) (args .c .now) (args .chip .now) (early .ensures) (if1 .left)
 
-same-length-2 : tie.Need-same-length-2
-same-length-2 c = search needs
-
 returns-2 : tie.Need-returns-2
 returns-2 c =
     let args = c .before .before .before .before .before .before .before .before .before .before .args in
@@ -41,11 +29,4 @@ returns-2 c =
 pub judge-spec : {M : Type 1} → statement M
 judge-spec =
     tie.close
-    (tie.spec
-    early-requires
-    bare-requires
-    same-length
-    returns
-    step-requires
-    same-length-2
-    returns-2)
+    (tie.spec (λ c κs. search needs) (λ c κs. search needs) (λ c. search needs) returns step-requires (λ c. search needs) returns-2)

@@ -2,20 +2,11 @@
 use mathlib.Core.Path.{sym, _∙_}
 use Rattle.token.proofs.Steps.{proper-store, step-8, step-9, step-10, step-12, step-50, step-51}
 use Rattle.paper.specs.Records.{records}
-use Rattle.paper.specs.Calls.{subject, key}
-use Rattle.keys.proofs.Whole.{uncut, longest-short}
+use Rattle.paper.specs.Calls.{subject, keyIn}
+use Rattle.method_keys.proofs.Whole.{uncut, longest-short}
 use borrow.Author.Needs.{needs}
 use Rattle.token.proofs.make_step.Statement.{statement}
 use Rattle.token.proofs.make_step.Tie as tie
-
-byte-at-requires : tie.Need-byte-at-requires
-byte-at-requires c κs = search needs
-
-make-puk-requires : tie.Need-make-puk-requires
-make-puk-requires c κs = search needs
-
-same-length : tie.Need-same-length
-same-length c = search needs
 
 returns : tie.Need-returns
 returns c =
@@ -25,12 +16,6 @@ returns c =
     let make-puk = c .before .before .make-puk in
     rw (step-8 (args .c .now) (args .chip .now) (records (args .s .now)) (sym (byte-at .ensures) ∙ if1 .taken)) (make-puk .ensures)
 
-make-policy-requires : tie.Need-make-policy-requires
-make-policy-requires c κs = search needs
-
-same-length-2 : tie.Need-same-length-2
-same-length-2 c = search needs
-
 returns-2 : tie.Need-returns-2
 returns-2 c =
     let args = c .before .before .before .before .before .before .before .before .before .before .args in
@@ -39,12 +24,6 @@ returns-2 c =
     let make-policy = c .before .before .make-policy in
     rw (step-9 (args .c .now) (args .chip .now) (records (args .s .now)) (sym (byte-at .ensures) ∙ if2 .taken)) (make-policy .ensures)
 
-make-key-requires : tie.Need-make-key-requires
-make-key-requires c κs = search needs
-
-same-length-3 : tie.Need-same-length-3
-same-length-3 c = search needs
-
 returns-3 : tie.Need-returns-3
 returns-3 c =
     let args = c .before .before .before .before .before .before .before .before .before .before .before .args in
@@ -52,13 +31,7 @@ returns-3 c =
     let byte-at = c .before .before .before .before .before .before .before .byte-at in
     let if3 = c .before .before .before .before .if3 in
     let make-key = c .before .before .make-key in
-    rw (step-10 (args .c .now) (args .chip .now) (records (args .s .now)) (sym (byte-at .ensures) ∙ if3 .taken), ← uncut (args .c .now) (args .chip .now) (records (args .s .now)) (longest-short (key (args .c .now) (args .chip .now) .policy) (subject (args .c .now)) (records (args .s .now)) (proper-store (args .s .now) (pre .0)))) (make-key .ensures)
-
-set-path-requires : tie.Need-set-path-requires
-set-path-requires c κs = search needs
-
-same-length-4 : tie.Need-same-length-4
-same-length-4 c = search needs
+    rw (step-10 (args .c .now) (args .chip .now) (records (args .s .now)) (sym (byte-at .ensures) ∙ if3 .taken), ← uncut (args .c .now) (args .chip .now) (records (args .s .now)) (longest-short (keyIn (args .c .now) (args .chip .now) .policy) (subject (args .c .now)) (records (args .s .now)) (proper-store (args .s .now) (pre .0)))) (make-key .ensures)
 
 returns-4 : tie.Need-returns-4
 returns-4 c =
@@ -68,12 +41,6 @@ returns-4 c =
     let set-path = c .before .before .set-path in
     rw (step-12 (args .c .now) (args .chip .now) (records (args .s .now)) (sym (byte-at .ensures) ∙ if4 .taken)) (set-path .ensures)
 
-post-delete-requires : tie.Need-post-delete-requires
-post-delete-requires c κs = search needs
-
-same-length-5 : tie.Need-same-length-5
-same-length-5 c = search needs
-
 returns-5 : tie.Need-returns-5
 returns-5 c =
     let args = c .before .before .before .before .before .before .before .before .before .before .before .before .before .args in
@@ -81,12 +48,6 @@ returns-5 c =
     let if5 = c .before .before .before .before .if5 in
     let post-delete = c .before .before .post-delete in
     rw (step-50 (args .c .now) (args .chip .now) (records (args .s .now)) (sym (byte-at .ensures) ∙ if5 .taken)) (post-delete .ensures)
-
-post-unlock-requires : tie.Need-post-unlock-requires
-post-unlock-requires c κs = search needs
-
-same-length-6 : tie.Need-same-length-6
-same-length-6 c = search needs
 
 returns-6 : tie.Need-returns-6
 returns-6 c =
@@ -104,23 +65,6 @@ returns-6 c =
 pub make-step-spec : {M : Type 1} → statement M
 make-step-spec =
     tie.close
-    (tie.spec
-    byte-at-requires
-    make-puk-requires
-    same-length
-    returns
-    make-policy-requires
-    same-length-2
-    returns-2
-    make-key-requires
-    same-length-3
-    returns-3
-    set-path-requires
-    same-length-4
-    returns-4
-    post-delete-requires
-    same-length-5
-    returns-5
-    post-unlock-requires
-    same-length-6
-    returns-6)
+    (tie.spec (λ c κs. search needs) (λ c κs. search needs) (λ c. search needs) returns (λ c κs. search needs) (λ c. search needs) returns-2
+    (λ c κs. search needs) (λ c. search needs) returns-3 (λ c κs. search needs) (λ c. search needs) returns-4 (λ c κs. search needs)
+    (λ c. search needs) returns-5 (λ c κs. search needs) (λ c. search needs) returns-6)

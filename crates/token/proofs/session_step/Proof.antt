@@ -2,19 +2,10 @@
 use mathlib.Core.Path.{sym, _∙_}
 use Rattle.token.proofs.Steps.{ranged, step-3, step-5}
 use Rattle.paper.specs.Records.{records}
-use Rattle.session_end.specs.Ends.{ended}
+use Rattle.method_session.specs.Ends.{ended}
 use borrow.Author.Needs.{needs}
 use Rattle.token.proofs.session_step.Statement.{statement}
 use Rattle.token.proofs.session_step.Tie as tie
-
-byte-at-requires : tie.Need-byte-at-requires
-byte-at-requires c κs = search needs
-
-close-requires : tie.Need-close-requires
-close-requires c κs = search needs
-
-same-length : tie.Need-same-length
-same-length c = search needs
 
 returns : tie.Need-returns
 returns c =
@@ -24,12 +15,6 @@ returns c =
     let if1 = c .before .before .before .before .if1 in
     let close = c .before .before .close in
     rw (step-3 (args .c .now) (args .chip .now) (records (args .s .now)) (sym (byte-at .ensures) ∙ if1 .taken)) (ranged (ended (args .c .now) (args .chip .now)) (pre) (close .ensures))
-
-abort-requires : tie.Need-abort-requires
-abort-requires c κs = search needs
-
-same-length-2 : tie.Need-same-length-2
-same-length-2 c = search needs
 
 returns-2 : tie.Need-returns-2
 returns-2 c =
@@ -44,23 +29,11 @@ make-step-requires c κs =
     let byte-at = c .before .before .before .byte-at in
     (c .before .before .before .before .before .before .before .pre, λ z. c .before .before .if1 .left (byte-at .ensures ∙ z), λ z. c .before .if2 .left (byte-at .ensures ∙ z))
 
-same-length-3 : tie.Need-same-length-3
-same-length-3 c = search needs
-
 returns-3 : tie.Need-returns-3
 returns-3 c = c .before .before .make-step .ensures
 
 pub session-step-spec : {M : Type 1} → statement M
 session-step-spec =
     tie.close
-    (tie.spec
-    byte-at-requires
-    close-requires
-    same-length
-    returns
-    abort-requires
-    same-length-2
-    returns-2
-    make-step-requires
-    same-length-3
-    returns-3)
+    (tie.spec (λ c κs. search needs) (λ c κs. search needs) (λ c. search needs) returns (λ c κs. search needs) (λ c. search needs) returns-2
+    make-step-requires (λ c. search needs) returns-3)

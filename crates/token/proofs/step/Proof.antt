@@ -6,15 +6,6 @@ use borrow.Author.Needs.{needs}
 use Rattle.token.proofs.step.Statement.{statement}
 use Rattle.token.proofs.step.Tie as tie
 
-is-session-call-requires : tie.Need-is-session-call-requires
-is-session-call-requires c κs = search needs
-
-session-step-requires : tie.Need-session-step-requires
-session-step-requires c κs = search needs
-
-same-length : tie.Need-same-length
-same-length c = search needs
-
 returns : tie.Need-returns
 returns c =
     let args = c .before .before .before .before .before .before .before .before .before .args in
@@ -22,15 +13,6 @@ returns c =
     let if1 = c .before .before .before .before .if1 in
     let session-step = c .before .before .session-step in
     rw (of-session (args .c .now) (args .chip .now) (records (args .s .now)) (sym (is-session-call .ensures) ∙ if1 .taken)) (session-step .ensures)
-
-byte-at-requires : tie.Need-byte-at-requires
-byte-at-requires c κs = search needs
-
-create-requires : tie.Need-create-requires
-create-requires c κs = search needs
-
-same-length-2 : tie.Need-same-length-2
-same-length-2 c = search needs
 
 returns-2 : tie.Need-returns-2
 returns-2 c =
@@ -41,15 +23,6 @@ returns-2 c =
     let if2 = c .before .before .before .before .if2 in
     let create = c .before .before .create in
     rw (step-2 (args .c .now) (args .chip .now) (records (args .s .now)) (sym (is-session-call .ensures) ∙ if1 .left) (sym (byte-at .ensures) ∙ if2 .taken)) (create .ensures)
-
-user-step-requires : tie.Need-user-step-requires
-user-step-requires c κs = search needs
-
-bare-requires : tie.Need-bare-requires
-bare-requires c κs = search needs
-
-same-length-3 : tie.Need-same-length-3
-same-length-3 c = search needs
 
 returns-3 : tie.Need-returns-3
 returns-3 c =
@@ -64,16 +37,5 @@ returns-3 c =
 pub step-spec : {M : Type 1} → statement M
 step-spec =
     tie.close
-    (tie.spec
-    is-session-call-requires
-    session-step-requires
-    same-length
-    returns
-    byte-at-requires
-    create-requires
-    same-length-2
-    returns-2
-    user-step-requires
-    bare-requires
-    same-length-3
-    returns-3)
+    (tie.spec (λ c κs. search needs) (λ c κs. search needs) (λ c. search needs) returns (λ c κs. search needs) (λ c κs. search needs)
+    (λ c. search needs) returns-2 (λ c κs. search needs) (λ c κs. search needs) (λ c. search needs) returns-3)

@@ -7,15 +7,6 @@ use borrow.Author.Needs.{needs}
 use Rattle.token.proofs.user_step.Statement.{statement}
 use Rattle.token.proofs.user_step.Tie as tie
 
-byte-at-requires : tie.Need-byte-at-requires
-byte-at-requires c κs = search needs
-
-delete-requires : tie.Need-delete-requires
-delete-requires c κs = search needs
-
-same-length : tie.Need-same-length
-same-length c = search needs
-
 returns : tie.Need-returns
 returns c =
     let args = c .before .before .before .before .before .before .before .before .before .args in
@@ -24,12 +15,6 @@ returns c =
     let if1 = c .before .before .before .before .if1 in
     let delete = c .before .before .delete in
     rw (step-80 (args .c .now) (args .chip .now) (records (args .s .now)) (sym (byte-at .ensures) ∙ if1 .taken)) (ranged (deleteKey (args .c .now) (args .chip .now)) (pre) (delete .ensures))
-
-unlock-requires : tie.Need-unlock-requires
-unlock-requires c κs = search needs
-
-same-length-2 : tie.Need-same-length-2
-same-length-2 c = search needs
 
 returns-2 : tie.Need-returns-2
 returns-2 c =
@@ -40,12 +25,6 @@ returns-2 c =
     let unlock = c .before .before .unlock in
     rw (step-82 (args .c .now) (args .chip .now) (records (args .s .now)) (sym (byte-at .ensures) ∙ if2 .taken)) (ranged (unlockKey (args .c .now) (args .chip .now)) (pre) (unlock .ensures))
 
-change-requires : tie.Need-change-requires
-change-requires c κs = search needs
-
-same-length-3 : tie.Need-same-length-3
-same-length-3 c = search needs
-
 returns-3 : tie.Need-returns-3
 returns-3 c =
     let args = c .before .before .before .before .before .before .before .before .before .before .before .args in
@@ -54,12 +33,6 @@ returns-3 c =
     let if3 = c .before .before .before .before .if3 in
     let change = c .before .before .change in
     rw (step-83 (args .c .now) (args .chip .now) (records (args .s .now)) (sym (byte-at .ensures) ∙ if3 .taken)) (ranged (changePin (args .c .now) (args .chip .now)) (pre) (change .ensures))
-
-use-key-requires : tie.Need-use-key-requires
-use-key-requires c κs = search needs
-
-same-length-4 : tie.Need-same-length-4
-same-length-4 c = search needs
 
 returns-4 : tie.Need-returns-4
 returns-4 c =
@@ -74,17 +47,5 @@ returns-4 c =
 pub user-step-spec : {M : Type 1} → statement M
 user-step-spec =
     tie.close
-    (tie.spec
-    byte-at-requires
-    delete-requires
-    same-length
-    returns
-    unlock-requires
-    same-length-2
-    returns-2
-    change-requires
-    same-length-3
-    returns-3
-    use-key-requires
-    same-length-4
-    returns-4)
+    (tie.spec (λ c κs. search needs) (λ c κs. search needs) (λ c. search needs) returns (λ c κs. search needs) (λ c. search needs) returns-2
+    (λ c κs. search needs) (λ c. search needs) returns-3 (λ c κs. search needs) (λ c. search needs) returns-4)

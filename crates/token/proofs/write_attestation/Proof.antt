@@ -2,29 +2,11 @@
 use mathlib.Core.Path.{_≡_, _∙_, sym}
 use native.Mathlib.Omega.{arith}
 use lib.ListN.{length}
-use Rattle.edits.proofs.Puts.{copied}
+use Rattle.store_edits.proofs.Puts.{copied}
 use Rattle.token.proofs.Steps.{pasted}
 use borrow.Author.Needs.{needs}
 use Rattle.token.proofs.write_attestation.Statement.{statement}
 use Rattle.token.proofs.write_attestation.Tie as tie
-
-slice-aggregate-copy : tie.Need-slice-aggregate-copy
-slice-aggregate-copy c = search needs
-
-sub-copy : tie.Need-sub-copy
-sub-copy c = search needs
-
-part-copy-start : tie.Need-part-copy-start
-part-copy-start c = search needs
-
-part-copy-end : tie.Need-part-copy-end
-part-copy-end c = search needs
-
-copy-requires : tie.Need-copy-requires
-copy-requires c κs = search needs
-
-same-length : tie.Need-same-length
-same-length c = search needs
 
 returns : tie.Need-returns
 returns c = let l : length (c .before .before .copy .last .1 .0) ≡ 32 = omega arith in
@@ -34,11 +16,4 @@ returns c = let l : length (c .before .before .copy .last .1 .0) ≡ 32 = omega 
 pub write-attestation-spec : {M : Type 1} → statement M
 write-attestation-spec =
     tie.close
-    (tie.spec
-    slice-aggregate-copy
-    sub-copy
-    part-copy-start
-    part-copy-end
-    copy-requires
-    same-length
-    returns)
+    (tie.spec (λ c. search needs) (λ c. search needs) (λ c. search needs) (λ c. search needs) (λ c κs. search needs) (λ c. search needs) returns)

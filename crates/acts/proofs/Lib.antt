@@ -1,3 +1,0 @@
-pub mod Blocks
-pub mod Halves
-pub mod Moving

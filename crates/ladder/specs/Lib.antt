@@ -1,2 +1,0 @@
-pub mod Rungs
-pub mod Answers

@@ -1,0 +1,5 @@
+pub mod Climbs
+pub mod Blocks
+pub mod Halves
+pub mod Moving
+pub mod Methods

@@ -1,0 +1,4 @@
+pub mod Rungs
+pub mod Answers
+pub mod Names
+pub mod Range

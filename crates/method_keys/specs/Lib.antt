@@ -1,0 +1,2 @@
+pub mod KeyLadder
+pub mod PathLadder

@@ -1,0 +1,40 @@
+-- The refusals first (`refused`), then the counter moves on and the record is put in (`created`).
+use mathlib.Core.Path.{sym, ap, _∙_}
+use Prim.Native.Nat.{ℕ}
+use Rattle.paper.specs.Records.{records, handle}
+use Rattle.method_session.proofs.Making.{refused, created, number-fits}
+use borrow.Author.Needs.{needs}
+use Rattle.method_session.proofs.create.Statement.{statement}
+use Rattle.method_session.proofs.create.Tie as tie
+
+returns : tie.Need-returns
+returns c =
+    let args = c .before .before .before .before .before .before .before .args in
+    let create-status = c .before .before .create-status in
+    let if1 = c .before .if1 in
+    rw (c .bare .ensures) (refused (args .c .now) (args .chip .now) (args .s .now) (create-status .ensures) (if1 .taken))
+
+handle-of-requires : tie.Need-handle-of-requires
+handle-of-requires c κs =
+    let args = c .before .before .before .before .before .before .before .before .args in
+    let create-status = c .before .before .before .create-status in
+    let if1 = c .before .before .if1 in
+    rw (c .next-session .ensures) (number-fits (args .c .now) (args .chip .now) (records (args .s .now)) (sym (create-status .ensures) ∙ if1 .left))
+
+returns-2 : tie.Need-returns-2
+returns-2 c =
+    let args = c .before .before .before .before .before .before .before .before .before .before .before .before .before .before .before .before .before .before .before .args in
+    let create-status = c .before .before .before .before .before .before .before .before .before .before .before .before .before .before .create-status in
+    let if1 = c .before .before .before .before .before .before .before .before .before .before .before .before .before .if1 in
+    let next-session = c .before .before .before .before .before .before .before .before .before .before .before .next-session in
+    let handle-of = c .before .before .before .before .before .before .before .before .before .before .handle-of in
+    let session-record = c .before .before .before .before .before .before .before .before .before .session-record in
+    let count = c .before .before .before .before .before .before .before .count in
+    let insert = c .before .before .insert in
+    created (args .c .now) (args .chip .now) (handle-of .result) (session-record .result) (sym (create-status .ensures) ∙ if1 .left) (handle-of .ensures ∙ ap (λ (n : ℕ). handle n 0) (next-session .ensures)) (session-record .ensures) (count .ensures) (insert .ensures)
+
+pub create-spec : {M : Type 1} → statement M
+create-spec =
+    tie.close
+    (tie.spec (λ c κs. search needs) (λ c κs. search needs) (λ c. search needs) returns (λ c κs. search needs) handle-of-requires
+    (λ c κs. search needs) (λ c κs. search needs) (λ c κs. search needs) (λ c. search needs) (λ c. search needs) returns-2)

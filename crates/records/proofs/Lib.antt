@@ -1,4 +1,0 @@
-pub mod Views
-pub mod Places
-pub mod Blanks
-pub mod Every

@@ -1,0 +1,10 @@
+-- The statement, written as a test.
+use borrow.Author.Needs.{needs}
+use Rattle.sound_pairs.proofs.has_id.Statement.{statement}
+use Rattle.sound_pairs.proofs.has_id.Tie as tie
+
+returns : tie.Need-returns
+returns c = rw (c .byte-at .ensures)
+
+pub has-id-spec : {M : Type 1} → statement M
+has-id-spec = tie.close (tie.spec (λ c κs. search needs) returns)

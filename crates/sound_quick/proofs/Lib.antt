@@ -1,0 +1,4 @@
+pub mod Columns
+pub mod Apart
+pub mod Places
+pub mod Sited

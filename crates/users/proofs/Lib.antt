@@ -1,2 +1,0 @@
-pub mod Trying
-pub mod Methods
