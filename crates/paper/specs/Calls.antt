@@ -7,7 +7,7 @@ use Prim.Native.Nat.{ℕ, zero, suc, _+_}
 use lib.ListN.{length}
 use Rattle.paper.specs.Limits.{shortestCall, longestCall, longestId, longestPin, longestPublicKey, keyBytes, macBytes, longestServerKey, longestManagementKey, longestUri, longestNonce, longestEncrypted, longestPinValue, longestSeed, longestName, longestParameters, longestAuthorization}
 use Rattle.paper.specs.Bytes.{byte, two, four, part, stringAt, behind}
-use Rattle.paper.specs.Form.{Form, _==_, _=<_, say, _and_, _or_, _then_}
+use Rattle.paper.specs.Form.{Form, _==_, _=<_, say, _and_, _or_}
 use Rattle.paper.specs.Table.{printable}
 
 -- Byte 0 is the method. Session calls start with the session handle, user calls with a key handle.

@@ -5,7 +5,6 @@ use Prim.Native.Nat.{ℕ, _+_}
 use Prim.Native.String.{String}
 use lib.Dec.{eqb}
 use Rattle.hmac.specs.Hmac.{HMAC}
-use Rattle.hmac.specs.Same.{same}
 use Rattle.paper.specs.Bytes.{enc2, string, ascii}
 use Rattle.paper.specs.Form.{Rec}
 use Rattle.paper.specs.Records.{SessionValue, id, publicKey, userDefined}

@@ -1,7 +1,7 @@
 -- The table of records: the fields of each kind in order, with their ranges. Every byte not named is zero.
 use mathlib.Core.Bool.{Bool, true, _&&_, cond}
 use mathlib.Core.List.{List, [], _∷_}
-use Prim.Native.Nat.{ℕ, zero, suc, _+_, _-_}
+use Prim.Native.Nat.{ℕ, suc, _+_, _-_}
 use lib.ListN.{length}
 use lib.Dec.{eqb}
 use Rattle.paper.specs.Limits.{recordBytes, bytesFrom, pinEnd, mostObjects, handleStep, longestId, longestPin, longestPublicKey, keyBytes, lastFormat, lastGrouping, lastPatterns, lastProtection}
