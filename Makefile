@@ -6,7 +6,7 @@ help: ## this list
 
 story: ## prove the token, then tell the story of two tabs and one key, call by call
 	rt check story
-	./target/bin/story
+	cd crates/story/data && ../../../target/bin/story
 
 test: ## all proofs, the chosen must-fail edits, programs, the tests around the library (the merge gate)
 	bash .ci/run

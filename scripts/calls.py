@@ -2,7 +2,7 @@
 """Write the calls in hex that docs/CALLS.md shows: those of the program `story`, with chip bytes, MAC data and replies.
 
     calls.py              write the blocks between the page's markers, `<!-- hex: NAME PARTS -->` and `<!-- end -->`
-    calls.py --check      end with 1 where the page is out of date, or the story or include/sks.h tells something else
+    calls.py --check      end with 1 where the page or the story's file is out of date, or the story or include/sks.h tells something else
     calls.py --list       print every call on a line: its name, call, chip bytes and reply
     calls.py --run LIB    hand every call to sks_format and sks_call of a shared library, and compare status and reply
 
@@ -20,7 +20,7 @@ from sks import be, handle, string
 
 TOP = os.path.join(os.path.dirname(os.path.abspath(__file__)), "..")
 PAGE, STATUSES, HEADER = (os.path.join(TOP, *p.split("/")) for p in ("docs/CALLS.md", "docs/STATUS.md", "include/sks.h"))
-SOURCE, PRINTED = (os.path.join(TOP, "crates", "story", *p.split("/")) for p in ("src/main.rt", "stdout"))
+TOLD, PRINTED = (os.path.join(TOP, "crates", "story", *p.split("/")) for p in ("data/story", "stdout"))
 RECORDS = 16
 
 NAMES = {2: "createProvisioningSession", 3: "closeProvisioningSession", 5: "abortProvisioningSession", 8: "createPUKPolicy", 9: "createPINPolicy",
@@ -285,20 +285,15 @@ def printed():
             for m, name, named, status, made, attested in re.findall(line, read(PRINTED), flags=re.M)]
 
 
-def texts(step):
-    """The texts in a step's call and chip bytes, but for IDs of sessions."""
-    fields = cut(step.call, f"method:1 {CALL[step.method]}") + cut(step.chip, CHIP.get(step.method, ""))
-    found = {v[2:] if width == "s" else v for _, width, v in fields if width in ("s", "*")}
-    return {t.decode() for t in found if not re.fullmatch(rb"[SC][1-6]", t)}
-
-
 def faults():
+    import story as telling  # which takes its calls from here
+
     steps = [s for chapter in story().values() for s in chapter]
     text = read(PAGE)
     if [told(s) for s in steps] != printed():
         yield "the story prints other calls or answers"
-    for words in sorted(set().union(*map(texts, steps)) - set(re.findall(r'b"(.*?)"', read(SOURCE)))):
-        yield f"the story's source does not have the text {words!r}"
+    if read(TOLD) != telling.story():
+        yield "crates/story/data/story is out of date: run scripts/story.py"
     for name in named().keys() - {m[1] for m in re.findall(MARKED, text, flags=re.S)}:
         yield f"docs/CALLS.md does not show {name}"
     if page(text) != text:

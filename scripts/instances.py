@@ -1,7 +1,8 @@
 #!/usr/bin/env python3
 """Write the stores of crate `instances`: crates/instances/proofs/{Apart,Unnamed}*.antt, two orders of the same two calls each.
 
-Each order is a story as scripts/worked.py writes them: a call with its chip bytes, the reply expected, the records expected.
+Each order is a story as scripts/worked.py writes them: a call with its chip bytes, the reply expected, the records expected. The two calls come
+first, since the theorems speak of them.
 """
 
 import os
@@ -71,7 +72,7 @@ STORIES = [
 
 
 def write(name, title, story):
-    text = worked.told(title, story).replace("scripts/worked.py", "scripts/instances.py").replace("Rattle.worked.specs.Hex", "Rattle.worked.specs.Hex")
+    text = worked.told(title, story, calls_first=True).replace("scripts/worked.py", "scripts/instances.py").replace("Rattle.worked.specs.Hex", "Rattle.worked.specs.Hex")
     open(os.path.join(worked.CRATES, "instances", "proofs", name + ".antt"), "w", encoding="utf8").write(text)
 
 

@@ -118,7 +118,7 @@ STORIES = [
 
 HEAD = """-- {title} Each step: the records before, a call with its chip bytes, the reply, the records after.
 -- Written by scripts/worked.py.
-use mathlib.Core.Path.{{_≡_, refl}}
+use mathlib.Core.Path.{{refl}}
 use mathlib.Core.List.{{List, [], _∷_}}
 use Prim.Native.String.{{String}}
 {uses}
@@ -144,17 +144,19 @@ def seen_through():
     return "\n".join(uses), " ".join(names)
 
 
-def told(title, story):
+def told(title, story, calls_first=False):
     """A story as antt text: its stores, calls and steps."""
     uses, names = seen_through()
     before, steps = story()
     text = HEAD.format(title=title, uses=uses)
+    calls = [f'\nabbrev pub call-{i} : String\ncall-{i} = "{call.hex()}"\n' for i, (_, (call, _), _, _) in enumerate(steps, 1)]
+    text += "".join(calls) if calls_first else ""
     text += f"\nabbrev pub store-0 : List Rec\nstore-0 =\n{rows(before)}\n"
-    for i, (what, (call, chip), reply, after) in enumerate(steps, 1):
+    for i, (what, (_, chip), reply, after) in enumerate(steps, 1):
         after = after + [sks.FREE] * (len(before) - len(after))
         text += f"\n-- {what}\nabbrev pub store-{i} : List Rec\nstore-{i} =\n{rows(after)}\n"
-        text += f'\nabbrev pub call-{i} : String\ncall-{i} = "{call.hex()}"\n'
-        text += f'\npub step-{i} : answers store-{i - 1} call-{i}\n    "{chip.hex()}"\n    "{reply.hex()}"\n    store-{i}\n'
+        text += "" if calls_first else calls[i - 1]
+        text += f'\npub step-{i} : answers store-{i - 1} call-{i} "{chip.hex()}" "{reply.hex()}" store-{i}\n'
         text += f"unfolding {names}\nstep-{i} = refl\n"
     return text
 

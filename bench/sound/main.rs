@@ -4,11 +4,11 @@
 mod plain;
 
 extern "C" {
-    fn sks_is_sound(s: *const u8, n: usize) -> bool;
+    fn sks_sound(s: *const u8, n: usize) -> bool;
 }
 
 fn proved(s: &[u8]) -> bool {
-    unsafe { sks_is_sound(s.as_ptr(), s.len()) }
+    unsafe { sks_sound(s.as_ptr(), s.len()) }
 }
 
 const TESTS: [fn(&[u8]) -> bool; 3] = [proved, plain::is_sound, second::sound];

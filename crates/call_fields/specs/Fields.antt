@@ -3,8 +3,8 @@
 use mathlib.Core.List.{List, []}
 use Prim.Native.Nat.{ℕ, _+_}
 use Rattle.paper.specs.Limits.{macBytes}
-use Rattle.paper.specs.Bytes.{byte, behind}
-use Rattle.paper.specs.Calls.{serverAt, ephemeralAt, issuerAt, managementAt, timesAt, behindId, pukRulesAt, seedAt, policyAt, friendlyAt, keyAlgorithmAt, parametersAt, endorsedAt, pathEnd, createIn, pukIn, policyIn, keyIn, pathIn, postIn}
+use Rattle.paper.specs.Bytes.{byte, part, stringAt, behind}
+use Rattle.paper.specs.Calls.{serverAt, ephemeralAt, issuerAt, managementAt, timesAt, behindId, pukRulesAt, seedAt, policyAt, friendlyAt, keyAlgorithmAt, parametersAt, endorsedAt, pathEnd, createIn, Puk, pukIn, Policy, policyIn, Key, keyIn, pathIn, postIn}
 use Rattle.call_fields.specs.declared.CreateFields.{CreateFields}
 use Rattle.call_fields.specs.declared.CloseFields.{CloseFields}
 use Rattle.call_fields.specs.declared.PukFields.{PukFields}
@@ -40,6 +40,18 @@ pukFields c =
       end = pukRulesAt c + 2 + macBytes;
     }
 
+-- The PUK of method 8 by its decoded fields: of `pukFields c` it is `pukIn c chip`.
+abbrev pub pukOf : PukFields → List ℕ → List ℕ → Puk
+pukOf q c chip =
+    record {
+      id = pukIn c chip .id;
+      encrypted = stringAt (q .encrypted) c;
+      format = q .format;
+      retry = q .retry;
+      mac = part (q .mac) macBytes c;
+      value = chip;
+    }
+
 abbrev pub policyFields : List ℕ → PolicyFields
 policyFields c =
     record {
@@ -55,6 +67,24 @@ policyFields c =
       input = policyIn c .input;
       mac = behindId c + 13;
       end = behindId c + 13 + macBytes;
+    }
+
+-- The same for the policy of method 9.
+abbrev pub policyOf : PolicyFields → List ℕ → Policy
+policyOf q c =
+    record {
+      id = policyIn c .id;
+      puk = q .puk;
+      defined = q .defined;
+      modifiable = q .modifiable;
+      format = q .format;
+      retry = q .retry;
+      grouping = q .grouping;
+      patterns = q .patterns;
+      minLength = q .min;
+      maxLength = q .max;
+      input = q .input;
+      mac = part (q .mac) macBytes c;
     }
 
 abbrev pub keyFields : List ℕ → KeyFields
@@ -75,6 +105,29 @@ keyFields c =
       endorsed = keyIn c [] .endorsed;
       mac = endorsedAt c + 2;
       end = endorsedAt c + 2 + macBytes;
+    }
+
+-- The same for the key of method 10.
+abbrev pub keyOf : KeyFields → List ℕ → List ℕ → Key
+keyOf q c chip =
+    record {
+      id = keyIn c chip .id;
+      entryAlgorithm = stringAt (q .entry) c;
+      seed = stringAt (q .seed) c;
+      policy = q .policy;
+      pinValue = stringAt (q .pin) c;
+      caching = q .caching;
+      biometric = q .biometric;
+      export = q .export;
+      deletion = q .deletion;
+      usage = q .usage;
+      friendly = stringAt (q .friendly) c;
+      keyAlgorithm = stringAt (q .algorithm) c;
+      parameters = stringAt (q .parameters) c;
+      endorsed = q .endorsed;
+      mac = part (q .mac) macBytes c;
+      public = keyIn c chip .public;
+      opened = keyIn c chip .opened;
     }
 
 abbrev pub pathFields : List ℕ → PathFields

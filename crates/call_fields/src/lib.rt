@@ -1,6 +1,17 @@
 // A call taken apart: for each method its numbers, and the places where its strings stand, by value. A string is the part
-// `slices::string_at(c, place)` of the call, a MAC the 32 bytes at its place. Every field is read wherever it would stand,
+// `string_at(c, place)` of the call, a MAC the 32 bytes at its place. Every field is read wherever it would stand,
 // whatever the call is: past the end a number is 0 and a part is shorter. What the fields are is said in the paper's Calls.
+use paper::ALGORITHM;
+use paper::AUTHORIZATION;
+use paper::BEHIND_SUBJECT;
+use paper::CERTIFICATE_COUNT;
+use paper::CERTIFICATES;
+use paper::CHIP_PUBLIC_KEY;
+use paper::HANDLE_BYTES;
+use paper::MAC_BYTES;
+use paper::TIMES_BYTES;
+use paper::USER_DEFINED;
+use store_records::behind_at;
 use store_records::byte_at;
 use store_records::four_at;
 use store_records::part_of;
@@ -12,17 +23,59 @@ ghost use Prim.Native.Nat.{_+_, _*_, _≤_};
 ghost use Rattle.sha256.specs.Sha256.{SHA256};
 ghost use Rattle.hmac.specs.Same.{same};
 ghost use Rattle.paper.specs.Bytes.{behind, ascii};
-ghost use Rattle.paper.specs.Calls.{behindStrings, createIn, keyIn, pathIn};
+ghost use Rattle.paper.specs.Calls.{Key, behindStrings, keyIn, pathIn};
 ghost use Rattle.paper.specs.Mac.{issuerSets};
 ghost use Rattle.paper.specs.Objects.{pinOf};
-ghost use Rattle.call_fields.specs.Fields.{createFields, closeFields, pukFields, policyFields, keyFields, pathFields, postFields, typedFields};
+ghost use Rattle.call_fields.specs.Fields.{createFields, closeFields, pukFields, policyFields, keyFields, keyOf, pathFields, postFields, typedFields};
+
+// 2: the times and the key limit. 10: the count of endorsed algorithms.
+const TIMES_AND_LIMIT: usize = TIMES_BYTES + 2;
+
+const COUNT_BYTES: usize = 2;
+
+// 8: format and retry limit, one byte each.
+const RETRY_BEHIND: usize = 1;
+
+const PUK_RULES: usize = 2;
+
+// 9, behind the ID: the PUK's handle, then nine bytes.
+const DEFINED: usize = 4;
+
+const MODIFIABLE: usize = 5;
+
+const FORMAT: usize = 6;
+
+const RETRY: usize = 7;
+
+const GROUPING: usize = 8;
+
+const PATTERNS: usize = 9;
+
+const MIN: usize = 10;
+
+const MAX: usize = 11;
+
+const INPUT: usize = 12;
+
+const POLICY_RULES: usize = 13;
+
+// 10, behind PINValue: caching and four bytes more.
+const BIOMETRIC: usize = 1;
+
+const EXPORT: usize = 2;
+
+const DELETION: usize = 3;
+
+const USAGE: usize = 4;
+
+const KEY_FLAGS: usize = 5;
 
 // The place behind the string at k: all that a decoder does.
 fn behind_one(c: &[u8], k: usize) -> usize
     requires { ⌜ k ≤ 20000000 ⌝ }
     ensures { λ r. ⌜ (r ≡ behind k (now (c .entry))) × (r ≤ k + 65537) ⌝ }
 {
-    k + 2 + two_at(c, k)
+    behind_at(c, k as u32)
 }
 
 // The place behind n strings, of which the first stands at k.
@@ -39,7 +92,7 @@ fn skip(c: &[u8], n: u8, k: usize) -> usize
     at
 }
 
-// 2 createProvisioningSession. The algorithm stands at 1.
+// 2 createProvisioningSession
 pub struct CreateFields {
     pub privacy: u8,
     pub server: usize,
@@ -54,7 +107,7 @@ pub struct CreateFields {
 pub fn create_fields(c: &[u8]) -> CreateFields
     ensures { λ r. ⌜ r ≡ createFields (now (c .entry)) ⌝ }
 {
-    let privacy = behind_one(c, 1);
+    let privacy = behind_one(c, ALGORITHM);
     let server = privacy + 1;
     let ephemeral = behind_one(c, server);
     let issuer = behind_one(c, ephemeral);
@@ -67,12 +120,12 @@ pub fn create_fields(c: &[u8]) -> CreateFields
         issuer: issuer,
         management: management,
         times: times,
-        limit: two_at(c, times + 8),
-        end: times + 10,
+        limit: two_at(c, times + TIMES_BYTES),
+        end: times + TIMES_AND_LIMIT,
     }
 }
 
-// 3 closeProvisioningSession. The nonce stands at 5.
+// 3 closeProvisioningSession
 pub struct CloseFields {
     pub mac: usize,
     pub end: usize,
@@ -81,14 +134,14 @@ pub struct CloseFields {
 pub fn close_fields(c: &[u8]) -> CloseFields
     ensures { λ r. ⌜ r ≡ closeFields (now (c .entry)) ⌝ }
 {
-    let mac = behind_one(c, 5);
+    let mac = behind_one(c, BEHIND_SUBJECT);
     CloseFields {
         mac: mac,
-        end: mac + 32,
+        end: mac + MAC_BYTES,
     }
 }
 
-// 8 createPUKPolicy. The ID stands at 5.
+// 8 createPUKPolicy
 pub struct PukFields {
     pub encrypted: usize,
     pub format: u8,
@@ -100,18 +153,18 @@ pub struct PukFields {
 pub fn puk_fields(c: &[u8]) -> PukFields
     ensures { λ r. ⌜ r ≡ pukFields (now (c .entry)) ⌝ }
 {
-    let encrypted = behind_one(c, 5);
+    let encrypted = behind_one(c, BEHIND_SUBJECT);
     let rules = behind_one(c, encrypted);
     PukFields {
         encrypted: encrypted,
         format: byte_at(c, rules),
-        retry: byte_at(c, rules + 1),
-        mac: rules + 2,
-        end: rules + 2 + 32,
+        retry: byte_at(c, rules + RETRY_BEHIND),
+        mac: rules + PUK_RULES,
+        end: rules + PUK_RULES + MAC_BYTES,
     }
 }
 
-// 9 createPINPolicy. The ID stands at 5.
+// 9 createPINPolicy
 pub struct PolicyFields {
     pub puk: u32,
     pub defined: u8,
@@ -130,24 +183,24 @@ pub struct PolicyFields {
 pub fn policy_fields(c: &[u8]) -> PolicyFields
     ensures { λ r. ⌜ r ≡ policyFields (now (c .entry)) ⌝ }
 {
-    let k = behind_one(c, 5);
+    let k = behind_one(c, BEHIND_SUBJECT);
     PolicyFields {
         puk: four_at(c, k),
-        defined: byte_at(c, k + 4),
-        modifiable: byte_at(c, k + 5),
-        format: byte_at(c, k + 6),
-        retry: byte_at(c, k + 7),
-        grouping: byte_at(c, k + 8),
-        patterns: byte_at(c, k + 9),
-        min: byte_at(c, k + 10),
-        max: byte_at(c, k + 11),
-        input: byte_at(c, k + 12),
-        mac: k + 13,
-        end: k + 13 + 32,
+        defined: byte_at(c, k + DEFINED),
+        modifiable: byte_at(c, k + MODIFIABLE),
+        format: byte_at(c, k + FORMAT),
+        retry: byte_at(c, k + RETRY),
+        grouping: byte_at(c, k + GROUPING),
+        patterns: byte_at(c, k + PATTERNS),
+        min: byte_at(c, k + MIN),
+        max: byte_at(c, k + MAX),
+        input: byte_at(c, k + INPUT),
+        mac: k + POLICY_RULES,
+        end: k + POLICY_RULES + MAC_BYTES,
     }
 }
 
-// 10 createKeyEntry. The ID stands at 5.
+// 10 createKeyEntry
 pub struct KeyFields {
     pub entry: usize,
     pub seed: usize,
@@ -169,11 +222,11 @@ pub struct KeyFields {
 pub fn key_fields(c: &[u8]) -> KeyFields
     ensures { λ r. ⌜ r ≡ keyFields (now (c .entry)) ⌝ }
 {
-    let entry = behind_one(c, 5);
+    let entry = behind_one(c, BEHIND_SUBJECT);
     let seed = behind_one(c, entry);
     let policy = behind_one(c, seed);
-    let flags = behind_one(c, policy + 4);
-    let friendly = flags + 5;
+    let flags = behind_one(c, policy + HANDLE_BYTES);
+    let friendly = flags + KEY_FLAGS;
     let algorithm = behind_one(c, friendly);
     let parameters = behind_one(c, algorithm);
     let endorsed = behind_one(c, parameters);
@@ -181,22 +234,22 @@ pub fn key_fields(c: &[u8]) -> KeyFields
         entry: entry,
         seed: seed,
         policy: four_at(c, policy),
-        pin: policy + 4,
+        pin: policy + HANDLE_BYTES,
         caching: byte_at(c, flags),
-        biometric: byte_at(c, flags + 1),
-        export: byte_at(c, flags + 2),
-        deletion: byte_at(c, flags + 3),
-        usage: byte_at(c, flags + 4),
+        biometric: byte_at(c, flags + BIOMETRIC),
+        export: byte_at(c, flags + EXPORT),
+        deletion: byte_at(c, flags + DELETION),
+        usage: byte_at(c, flags + USAGE),
         friendly: friendly,
         algorithm: algorithm,
         parameters: parameters,
         endorsed: two_at(c, endorsed),
-        mac: endorsed + 2,
-        end: endorsed + 2 + 32,
+        mac: endorsed + COUNT_BYTES,
+        end: endorsed + COUNT_BYTES + MAC_BYTES,
     }
 }
 
-// 12 setCertificatePath. The certificates stand at 10.
+// 12 setCertificatePath
 pub struct PathFields {
     pub key: u32,
     pub count: u8,
@@ -207,17 +260,17 @@ pub struct PathFields {
 pub fn path_fields(c: &[u8]) -> PathFields
     ensures { λ r. ⌜ r ≡ pathFields (now (c .entry)) ⌝ }
 {
-    let count = byte_at(c, 9);
-    let mac = skip(c, count, 10);
+    let count = byte_at(c, CERTIFICATE_COUNT);
+    let mac = skip(c, count, CERTIFICATES);
     PathFields {
-        key: four_at(c, 5),
+        key: four_at(c, BEHIND_SUBJECT),
         count: count,
         mac: mac,
-        end: mac + 32,
+        end: mac + MAC_BYTES,
     }
 }
 
-// 50 postDeleteKey, 51 postUnlockKey. The authorization stands at 9.
+// 50 postDeleteKey, 51 postUnlockKey
 pub struct PostFields {
     pub key: u32,
     pub mac: usize,
@@ -227,15 +280,15 @@ pub struct PostFields {
 pub fn post_fields(c: &[u8]) -> PostFields
     ensures { λ r. ⌜ r ≡ postFields (now (c .entry)) ⌝ }
 {
-    let mac = behind_one(c, 9);
+    let mac = behind_one(c, AUTHORIZATION);
     PostFields {
-        key: four_at(c, 5),
+        key: four_at(c, BEHIND_SUBJECT),
         mac: mac,
-        end: mac + 32,
+        end: mac + MAC_BYTES,
     }
 }
 
-// 80, 82, 100: what is typed stands at 5; 83: a new PIN stands behind it.
+// 80, 82, 100: what is typed stands at 5; 83: a new PIN stands behind it
 pub struct TypedFields {
     pub second: usize,
     pub end: usize,
@@ -244,7 +297,7 @@ pub struct TypedFields {
 pub fn typed_fields(c: &[u8]) -> TypedFields
     ensures { λ r. ⌜ r ≡ typedFields (now (c .entry)) ⌝ }
 {
-    let second = behind_one(c, 5);
+    let second = behind_one(c, BEHIND_SUBJECT);
     TypedFields {
         second: second,
         end: behind_one(c, second),
@@ -255,7 +308,7 @@ pub fn typed_fields(c: &[u8]) -> TypedFields
 pub fn first_certificate<'a>(c: &'a [u8]) -> &'a [u8]
     ensures { λ r. ⌜ now r ≡ pathIn (now (c .entry)) .first ⌝ }
 {
-    string_at(c, 10)
+    call_reader::string_in(c, CERTIFICATES)
 }
 
 pub fn first_digest(c: &[u8]) -> [u8; 32]
@@ -264,61 +317,51 @@ pub fn first_digest(c: &[u8]) -> [u8; 32]
     sha256::sha256(first_certificate(c))
 }
 
-// What a call of method 10 names is a policy under which the issuer sets the PIN.
-pub fn issuer_sets(c: &[u8], policy: &[u8]) -> bool
-    ensures { λ r. ⌜ r ≡ issuerSets (keyIn (now (c .entry)) []) (now (policy .entry)) ⌝ }
+// What a key's call names by this handle is a policy under which the issuer sets the PIN.
+pub fn issuer_sets(handle: u32, policy: &[u8]) -> bool
+    ensures { λ r. ⌜ ((q : Key) → q .policy ≡ handle → r ≡ issuerSets q (now (policy .entry))) ⌝ }
 {
-    let q = key_fields(c);
-    if q.policy == 0 {
+    if handle == 0 {
         return false;
     }
-    byte_at(policy, 49) == 0
+    byte_at(policy, USER_DEFINED) == 0
 }
 
-// The PIN that the chip opened for method 10. The public key stands before it, at 0.
+// The PIN that the chip opened for method 10. The public key stands before it.
 pub fn opened<'a>(chip: &'a [u8]) -> &'a [u8]
     ensures { λ r. ⌜ now r ≡ keyIn [] (now (chip .entry)) .opened ⌝ }
 {
-    string_at(chip, behind_one(chip, 0))
+    string_at(chip, behind_one(chip, CHIP_PUBLIC_KEY))
 }
 
 // The PIN of a new key, as a part of the call (UserDefined) or of the chip bytes; without policy it is empty.
-pub fn pin<'a>(c: &'a [u8], chip: &'a [u8], policy: &[u8]) -> &'a [u8]
-    ensures { λ r. ⌜ now r ≡ pinOf (keyIn (now (c .entry)) (now (chip .entry))) (now (policy .entry)) ⌝ }
+pub fn pin<'a>(q: KeyFields, c: &'a [u8], chip: &'a [u8], policy: &[u8]) -> &'a [u8]
+    ensures { λ r. ⌜ now r ≡ pinOf (keyOf q (now (c .entry)) (now (chip .entry))) (now (policy .entry)) ⌝ }
 {
-    let q = key_fields(c);
     if q.policy == 0 {
         return part_of(c, 0, 0);
     }
-    if issuer_sets(c, policy) {
+    if issuer_sets(q.policy, policy) {
         return opened(chip);
     }
     string_at(c, q.pin)
 }
 
 // Whether the algorithm strings of methods 2 and 10 are those that the paper names.
-pub fn is_session_algorithm(c: &[u8]) -> bool
-    ensures { λ r. ⌜ r ≡ same (createIn (now (c .entry)) [] .algorithm) (ascii "http://xmlns.webpki.org/sks/algorithm#session.1") ⌝ }
+pub fn is_session_algorithm(v: &[u8]) -> bool
+    ensures { λ r. ⌜ r ≡ same (now (v .entry)) (ascii "http://xmlns.webpki.org/sks/algorithm#session.1") ⌝ }
 {
-    store_records::same(
-        string_at(c, 1),
-        b"http://xmlns.webpki.org/sks/algorithm#session.1",
-    )
+    store_records::same(v, b"http://xmlns.webpki.org/sks/algorithm#session.1")
 }
 
-pub fn is_entry_algorithm(c: &[u8]) -> bool
-    ensures { λ r. ⌜ r ≡ same (keyIn (now (c .entry)) [] .entryAlgorithm) (ascii "http://xmlns.webpki.org/sks/algorithm#key.1") ⌝ }
+pub fn is_entry_algorithm(v: &[u8]) -> bool
+    ensures { λ r. ⌜ r ≡ same (now (v .entry)) (ascii "http://xmlns.webpki.org/sks/algorithm#key.1") ⌝ }
 {
-    let q = key_fields(c);
-    store_records::same(
-        string_at(c, q.entry),
-        b"http://xmlns.webpki.org/sks/algorithm#key.1",
-    )
+    store_records::same(v, b"http://xmlns.webpki.org/sks/algorithm#key.1")
 }
 
-pub fn is_key_algorithm(c: &[u8]) -> bool
-    ensures { λ r. ⌜ r ≡ same (keyIn (now (c .entry)) [] .keyAlgorithm) (ascii "urn:oid:1.2.840.10045.3.1.7") ⌝ }
+pub fn is_key_algorithm(v: &[u8]) -> bool
+    ensures { λ r. ⌜ r ≡ same (now (v .entry)) (ascii "urn:oid:1.2.840.10045.3.1.7") ⌝ }
 {
-    let q = key_fields(c);
-    store_records::same(string_at(c, q.algorithm), b"urn:oid:1.2.840.10045.3.1.7")
+    store_records::same(v, b"urn:oid:1.2.840.10045.3.1.7")
 }

@@ -1,1 +1,1 @@
-pub mod Chip
+pub mod Forms

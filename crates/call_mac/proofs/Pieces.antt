@@ -11,10 +11,6 @@ use Rattle.paper.specs.Bytes.{part, behind, stringAt, enc2, string}
 use Rattle.paper.specs.Calls.{strings}
 use Rattle.paper.specs.Mac.{eachString}
 
-pub short-part : (k n : ℕ) (s : List ℕ) → length (part k n s) ≤ n
-unfolding part
-short-part k n s = rw length-take (omega arith)
-
 -- one byte more is written behind p
 pub join-more : (p s r : List ℕ) (n i : ℕ) → i < length s → n + i < length r → take (n + i) r ≡ p ++ take i s
     → take (n + (i + 1)) (set r (n + i) (getD s i 0)) ≡ p ++ take (i + 1) s
@@ -30,16 +26,13 @@ join-end p s r n i a b e =
     rw z (e ∙ ap (λ (l : List ℕ). p ++ l) (take-all i s b))
 
 -- secret, name and counter stand in the key, one behind the other
-pub key-joined : (x y w a b k : List ℕ) → length w ≡ 2
+pub key-joined : (x y w a b k : List ℕ) → length x ≡ 32 → length w ≡ 2
     → take (0 + length x) a ≡ x
-    → take (length x + length y) b ≡ take (length x) a ++ y
-    → take (length x + length y + length w) k ≡ take (length x + length y) b ++ w
-    → part 0 (length x + length y + 2) k ≡ x ++ y ++ w
+    → take (32 + length y) b ≡ take 32 a ++ y
+    → take (32 + length y + length w) k ≡ take (32 + length y) b ++ w
+    → part 0 (32 + length y + 2) k ≡ x ++ y ++ w
 unfolding part
-key-joined x y w a b k l e₁ e₂ e₃ =
-    let f₁ : take (length x) a ≡ x = ap (λ (n : ℕ). take n a) (sym (zero-add (length x))) ∙ e₁ in
-    ap (λ (n : ℕ). take (length x + length y + n) k) (sym l) ∙ e₃
-    ∙ ap (λ (t : List ℕ). t ++ w) (e₂ ∙ ap (λ (t : List ℕ). t ++ y) f₁)
+key-joined x y w a b k n l e₁ e₂ e₃ = let f : take 32 a ≡ x = rw n at e₁ in rw (← l, e₃, e₂, f)
 
 -- a length and its bytes are a string
 pub string-joined : (text b v : List ℕ) → b ≡ enc2 (length v) → (text ++ b) ++ v ≡ text ++ string v

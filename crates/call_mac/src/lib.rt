@@ -1,6 +1,18 @@
-// The MAC and the attestation of each method, made in pieces: the session's record, the record of a policy or key, and parts of the
-// call go into the hash as they stand, and nothing is copied but the key. The promises hold for every call, of whatever form.
+// The MAC and the attestation of each method, under a session's key and counter, made in pieces: the record of a policy or key and parts
+// of the call go into the hash as they stand, and nothing is copied but the key. The promises hold for every call, of whatever form.
+use call_fields::KeyFields;
+use call_fields::PolicyFields;
+use call_fields::PukFields;
 use hmac::Mac;
+use paper::AUTHORIZATION;
+use paper::BEHIND_SUBJECT;
+use paper::CERTIFICATE_COUNT;
+use paper::CERTIFICATES;
+use paper::CHIP_PUBLIC_KEY;
+use paper::PUBLIC_KEY;
+use paper::SESSION_KEY_BYTES;
+use paper::UNLOCKS;
+use store_records::byte_at;
 use store_records::part_of;
 use store_records::string_at;
 use store_records::text_at;
@@ -11,9 +23,10 @@ ghost use Prim.Native.Nat.{ℕ, _+_, _≤_};
 ghost use lib.ListN.{length, take};
 ghost use Rattle.hmac.specs.Keyed.{Keyed};
 ghost use Rattle.paper.specs.Bytes.{enc2, string, ascii};
-ghost use Rattle.paper.specs.Records.{byValue, sessionKey, macCounter};
-ghost use Rattle.paper.specs.Calls.{strings, closeIn, pukIn, policyIn, keyIn, pathIn, postIn};
-ghost use Rattle.paper.specs.Mac.{mac, attestation, idOr, pinValueOr, eachString, closeData, pukData, policyData, keyData, pathData, postData, keyAttested, closeAttested};
+ghost use Rattle.paper.specs.Calls.{strings, closeIn, keyIn, pathIn, postIn};
+ghost use Rattle.paper.specs.Mac.{macUnder, idOr, pinValueOr, eachString, pukData, policyData, keyData, pathData, postData, keyAttested, closeAttested};
+ghost use Rattle.call_fields.specs.Fields.{pukOf, policyOf, keyOf};
+ghost use Rattle.call_mac.specs.Names.{postName};
 
 fn two_bytes(n: usize) -> [u8; 2]
     ensures { λ r. ⌜ r ≡ enc2 n ⌝ }
@@ -36,32 +49,23 @@ fn joined(b: [u8; 64], n: usize, s: &[u8]) -> [u8; 64]
 }
 
 // A MAC under way whose key is SessionKey, name and counter joined.
-fn begun(ses: &[u8], name: &[u8], counter: usize) -> Mac
+fn begun(key: &[u8; 32], name: &[u8], counter: usize) -> Mac
     requires { ⌜ length (now name) ≤ 30 ⌝ }
-    ensures { λ r. ⌜ Keyed r (sessionKey (now (ses .entry)) ++ now (name .entry) ++ enc2 counter) [] ⌝ }
+    ensures { λ r. ⌜ Keyed r (now (key .entry) ++ now (name .entry) ++ enc2 counter) [] ⌝ }
 {
-    let secret = part_of(ses, 82, 32);
-    let n = secret.len();
-    let named = n + name.len();
-    let a = joined([0u8; 64], 0, secret);
-    let b = joined(a, n, name);
+    let named = SESSION_KEY_BYTES + name.len();
+    let a = joined([0u8; 64], 0, key);
+    let b = joined(a, SESSION_KEY_BYTES, name);
     let counted = two_bytes(counter);
     let k = joined(b, named, &counted);
     hmac::start(part_of(&k, 0, named + 2))
 }
 
-// The same at the session's counter, for a MAC, and at the next, for an attestation.
-fn begun_mac(ses: &[u8], name: &[u8]) -> Mac
-    requires { ⌜ length (now name) ≤ 30 ⌝ }
-    ensures { λ r. ⌜ Keyed r (sessionKey (now (ses .entry)) ++ now (name .entry) ++ enc2 (macCounter (now (ses .entry)))) [] ⌝ }
+// An attestation, the second use of a call that makes one, is made at the next counter.
+fn begun_attestation(key: &[u8; 32], counter: u16) -> Mac
+    ensures { λ r. ⌜ Keyed r (now (key .entry) ++ ascii "Device Attestation" ++ enc2 (counter + 1)) [] ⌝ }
 {
-    begun(ses, name, two_at(ses, 114))
-}
-
-fn begun_attestation(ses: &[u8]) -> Mac
-    ensures { λ r. ⌜ Keyed r (sessionKey (now (ses .entry)) ++ ascii "Device Attestation" ++ enc2 (macCounter (now (ses .entry)) + 1)) [] ⌝ }
-{
-    begun(ses, b"Device Attestation", two_at(ses, 114) + 1)
+    begun(key, b"Device Attestation", (counter as usize) + 1)
 }
 
 // A string is taken, its length first.
@@ -79,15 +83,14 @@ fn with_id_or(m: Mac, handle: u32, policy: &[u8]) -> Mac
     if handle == 0 {
         return with_string(m, b"#N/A");
     }
-    with_string(m, text_at(policy, 16))
+    with_string(m, text_at(policy, paper::ID))
 }
 
 // PINValue, or `#N/A` where the issuer sets none.
-fn with_pin_value(m: Mac, c: &[u8], policy: &[u8]) -> Mac
-    ensures { λ r. ⌜ ((k text : List ℕ) → Keyed m k text → Keyed r k (text ++ string (pinValueOr (keyIn (now (c .entry)) []) (now (policy .entry))))) ⌝ }
+fn with_pin_value(m: Mac, q: KeyFields, c: &[u8], policy: &[u8]) -> Mac
+    ensures { λ r. ⌜ ((k text : List ℕ) → Keyed m k text → Keyed r k (text ++ string (pinValueOr (keyOf q (now (c .entry)) []) (now (policy .entry))))) ⌝ }
 {
-    if call_fields::issuer_sets(c, policy) {
-        let q = call_fields::key_fields(c);
+    if call_fields::issuer_sets(q.policy, policy) {
         return with_string(m, string_at(c, q.pin));
     }
     with_string(m, b"#N/A")
@@ -98,10 +101,10 @@ fn with_certificates(m: Mac, c: &[u8], n: u8) -> Mac
     ensures { λ r. ⌜ ((k text : List ℕ) → Keyed m k text → Keyed r k (text ++ eachString (strings n 10 (now (c .entry))))) ⌝ }
 {
     let mut r = m;
-    let mut at: usize = 10;
+    let mut at: usize = CERTIFICATES;
     let mut left = n;
     while 0 < left {
-        r = with_string(r, string_at(c, at));
+        r = with_string(r, call_reader::string_in(c, at));
         at = at + 2 + two_at(c, at);
         left -= 1;
     }
@@ -109,36 +112,40 @@ fn with_certificates(m: Mac, c: &[u8], n: u8) -> Mac
 }
 
 // 3 closeProvisioningSession: its MAC, and the attestation that it answers with
-pub fn of_close(ses: &[u8], c: &[u8]) -> [u8; 32]
-    ensures { λ r. ⌜ r ≡ mac (byValue (now (ses .entry))) "closeProvisioningSession" (closeData (byValue (now (ses .entry))) (closeIn (now (c .entry)))) ⌝ }
+pub fn of_close(key: &[u8; 32], counter: u16, client: &[u8], c: &[u8]) -> [u8; 32]
+    ensures { λ r. ⌜ r ≡ macUnder (now (key .entry)) (ascii "closeProvisioningSession") counter (string (now (client .entry)) ++ string (closeIn (now (c .entry)) .nonce)) ⌝ }
 {
-    let m = begun_mac(ses, b"closeProvisioningSession");
-    let t = with_string(m, text_at(ses, 49));
-    hmac::finish(with_string(t, string_at(c, 5)))
+    let m = begun(key, b"closeProvisioningSession", counter as usize);
+    let t = with_string(m, client);
+    hmac::finish(with_string(t, string_at(c, BEHIND_SUBJECT)))
 }
 
-pub fn attested_close(ses: &[u8], c: &[u8]) -> [u8; 32]
-    ensures { λ r. ⌜ r ≡ attestation (byValue (now (ses .entry))) (closeAttested (closeIn (now (c .entry)))) ⌝ }
+pub fn attested_close(key: &[u8; 32], counter: u16, c: &[u8]) -> [u8; 32]
+    ensures { λ r. ⌜ r ≡ macUnder (now (key .entry)) (ascii "Device Attestation") (counter + 1) (closeAttested (closeIn (now (c .entry)))) ⌝ }
 {
-    hmac::finish(with_string(begun_attestation(ses), string_at(c, 5)))
+    hmac::finish(with_string(
+        begun_attestation(key, counter),
+        string_at(c, BEHIND_SUBJECT),
+    ))
 }
 
-// 8 createPUKPolicy
-pub fn of_puk(ses: &[u8], c: &[u8]) -> [u8; 32]
-    ensures { λ r. ⌜ r ≡ mac (byValue (now (ses .entry))) "createPUKPolicy" (pukData (pukIn (now (c .entry)) [])) ⌝ }
+// 8 createPUKPolicy, by the call's decoded fields
+pub fn of_puk(key: &[u8; 32], counter: u16, q: PukFields, c: &[u8]) -> [u8; 32]
+    ensures { λ r. ⌜ r ≡ macUnder (now (key .entry)) (ascii "createPUKPolicy") counter (pukData (pukOf q (now (c .entry)) [])) ⌝ }
 {
-    let q = call_fields::puk_fields(c);
     let rules = [q.format, q.retry];
-    let m = begun_mac(ses, b"createPUKPolicy");
-    let t = with_string(with_string(m, string_at(c, 5)), string_at(c, q.encrypted));
+    let m = begun(key, b"createPUKPolicy", counter as usize);
+    let t = with_string(
+        with_string(m, string_at(c, BEHIND_SUBJECT)),
+        string_at(c, q.encrypted),
+    );
     hmac::finish(hmac::update(t, &rules))
 }
 
-// 9 createPINPolicy, with the record of the PUK that it names
-pub fn of_policy(ses: &[u8], puk: &[u8], c: &[u8]) -> [u8; 32]
-    ensures { λ r. ⌜ r ≡ mac (byValue (now (ses .entry))) "createPINPolicy" (policyData (policyIn (now (c .entry))) (now (puk .entry))) ⌝ }
+// 9 createPINPolicy, likewise, with the record of the PUK that it names
+pub fn of_policy(key: &[u8; 32], counter: u16, q: PolicyFields, puk: &[u8], c: &[u8]) -> [u8; 32]
+    ensures { λ r. ⌜ r ≡ macUnder (now (key .entry)) (ascii "createPINPolicy") counter (policyData (policyOf q (now (c .entry))) (now (puk .entry))) ⌝ }
 {
-    let q = call_fields::policy_fields(c);
     let rules = [
         q.defined,
         q.modifiable,
@@ -150,55 +157,63 @@ pub fn of_policy(ses: &[u8], puk: &[u8], c: &[u8]) -> [u8; 32]
         q.max,
         q.input,
     ];
-    let m = begun_mac(ses, b"createPINPolicy");
-    let t = with_id_or(with_string(m, string_at(c, 5)), q.puk, puk);
+    let m = begun(key, b"createPINPolicy", counter as usize);
+    let t = with_id_or(with_string(m, string_at(c, BEHIND_SUBJECT)), q.puk, puk);
     hmac::finish(hmac::update(t, &rules))
 }
 
-// 10 createKeyEntry: its MAC, with the record of the policy that it names, and the attestation that it answers with
-pub fn of_key(ses: &[u8], policy: &[u8], c: &[u8]) -> [u8; 32]
-    ensures { λ r. ⌜ r ≡ mac (byValue (now (ses .entry))) "createKeyEntry" (keyData (keyIn (now (c .entry)) []) (now (policy .entry))) ⌝ }
+// 10 createKeyEntry: its MAC, likewise, with the record of the policy that it names, and the attestation that it answers with
+pub fn of_key(key: &[u8; 32], counter: u16, q: KeyFields, policy: &[u8], c: &[u8]) -> [u8; 32]
+    ensures { λ r. ⌜ r ≡ macUnder (now (key .entry)) (ascii "createKeyEntry") counter (keyData (keyOf q (now (c .entry)) []) (now (policy .entry))) ⌝ }
 {
-    let q = call_fields::key_fields(c);
     let flags = [q.caching, q.biometric, q.export, q.deletion, q.usage];
-    let m = begun_mac(ses, b"createKeyEntry");
-    let id = with_string(m, string_at(c, 5));
+    let m = begun(key, b"createKeyEntry", counter as usize);
+    let id = with_string(m, string_at(c, BEHIND_SUBJECT));
     let entry = with_string(id, string_at(c, q.entry));
     let seed = with_string(entry, string_at(c, q.seed));
     let named = with_id_or(seed, q.policy, policy);
-    let pin = with_pin_value(named, c, policy);
+    let pin = with_pin_value(named, q, c, policy);
     let flagged = hmac::update(pin, &flags);
     let friendly = with_string(flagged, string_at(c, q.friendly));
     let algorithm = with_string(friendly, string_at(c, q.algorithm));
     hmac::finish(with_string(algorithm, string_at(c, q.parameters)))
 }
 
-pub fn attested_key(ses: &[u8], c: &[u8], chip: &[u8]) -> [u8; 32]
-    ensures { λ r. ⌜ r ≡ attestation (byValue (now (ses .entry))) (keyAttested (keyIn (now (c .entry)) (now (chip .entry)))) ⌝ }
+pub fn attested_key(key: &[u8; 32], counter: u16, c: &[u8], chip: &[u8]) -> [u8; 32]
+    ensures { λ r. ⌜ r ≡ macUnder (now (key .entry)) (ascii "Device Attestation") (counter + 1) (keyAttested (keyIn (now (c .entry)) (now (chip .entry)))) ⌝ }
 {
-    let t = with_string(begun_attestation(ses), string_at(c, 5));
-    hmac::finish(with_string(t, string_at(chip, 0)))
+    let t = with_string(
+        begun_attestation(key, counter),
+        string_at(c, BEHIND_SUBJECT),
+    );
+    hmac::finish(with_string(t, string_at(chip, CHIP_PUBLIC_KEY)))
 }
 
 // 12 setCertificatePath, with the record of the key that it names
-pub fn of_path(ses: &[u8], k: &[u8], c: &[u8]) -> [u8; 32]
-    ensures { λ r. ⌜ r ≡ mac (byValue (now (ses .entry))) "setCertificatePath" (pathData (now (k .entry)) (pathIn (now (c .entry)))) ⌝ }
+pub fn of_path(key: &[u8; 32], counter: u16, k: &[u8], c: &[u8]) -> [u8; 32]
+    ensures { λ r. ⌜ r ≡ macUnder (now (key .entry)) (ascii "setCertificatePath") counter (pathData (now (k .entry)) (pathIn (now (c .entry)))) ⌝ }
 {
-    let q = call_fields::path_fields(c);
-    let m = begun_mac(ses, b"setCertificatePath");
-    let t = with_string(with_string(m, text_at(k, 16)), text_at(k, 82));
-    hmac::finish(with_certificates(t, c, q.count))
+    let m = begun(key, b"setCertificatePath", counter as usize);
+    let t = with_string(
+        with_string(m, text_at(k, paper::ID)),
+        text_at(k, PUBLIC_KEY),
+    );
+    hmac::finish(with_certificates(t, c, byte_at(c, CERTIFICATE_COUNT)))
 }
 
-// 50 postDeleteKey, 51 postUnlockKey
-pub fn of_post_delete(ses: &[u8], c: &[u8]) -> [u8; 32]
-    ensures { λ r. ⌜ r ≡ mac (byValue (now (ses .entry))) "postDeleteKey" (postData (postIn (now (c .entry)) [])) ⌝ }
+// 50 postDeleteKey, 51 postUnlockKey: the operation tells the name
+fn begun_post(key: &[u8; 32], counter: u16, op: u8) -> Mac
+    ensures { λ r. ⌜ Keyed r (now (key .entry) ++ ascii (postName op) ++ enc2 counter) [] ⌝ }
 {
-    hmac::finish(with_string(begun_mac(ses, b"postDeleteKey"), string_at(c, 9)))
+    if op == UNLOCKS {
+        return begun(key, b"postUnlockKey", counter as usize);
+    }
+    begun(key, b"postDeleteKey", counter as usize)
 }
 
-pub fn of_post_unlock(ses: &[u8], c: &[u8]) -> [u8; 32]
-    ensures { λ r. ⌜ r ≡ mac (byValue (now (ses .entry))) "postUnlockKey" (postData (postIn (now (c .entry)) [])) ⌝ }
+pub fn of_post(key: &[u8; 32], counter: u16, op: u8, c: &[u8]) -> [u8; 32]
+    ensures { λ r. ⌜ r ≡ macUnder (now (key .entry)) (ascii (postName op)) counter (postData (postIn (now (c .entry)) [])) ⌝ }
 {
-    hmac::finish(with_string(begun_mac(ses, b"postUnlockKey"), string_at(c, 9)))
+    let m = begun_post(key, counter, op);
+    hmac::finish(with_string(m, string_at(c, AUTHORIZATION)))
 }

@@ -1,5 +1,8 @@
 // Whether a PIN or PUK has its format, breaks a pattern rule, and meets the rule of its policy.
 // The rules stand in paper's Text.antt; what the loops below carry in specs/Runs.antt.
+use paper::MAX_LENGTH;
+use paper::MIN_LENGTH;
+use paper::PATTERNS;
 use store_records::all_within;
 use store_records::byte_at;
 use store_records::is_within;
@@ -12,13 +15,26 @@ ghost use Rattle.paper.specs.Bytes.{within};
 ghost use Rattle.paper.specs.Text.{alphanumeric, utf8, formatFits, twoEqual, threeEqual, stepped, isSet, patternFits, pinFits};
 ghost use Rattle.call_text.specs.Runs.{inAlphabet, followers, toCome, isNext, isRun};
 
+// Formats; no text has one above these.
+const NUMERIC: u8 = 0;
+
+const ALPHANUMERIC: u8 = 1;
+
+const UTF_8: u8 = 2;
+
+const BINARY: u8 = 3;
+
+// Bits of patterns.
+const TWO_EQUAL: u8 = 1;
+
+const THREE_EQUAL: u8 = 2;
+
+const STEPPED: u8 = 4;
+
 fn is_in_alphabet(b: u8) -> bool
     ensures { λ r. ⌜ r ≡ inAlphabet b ⌝ }
 {
-    if is_within(b, 0x30, 0x39) {
-        return true;
-    }
-    is_within(b, 0x41, 0x5A)
+    is_within(b, b'0', b'9') | is_within(b, b'A', b'Z')
 }
 
 fn is_alphanumeric(v: &[u8]) -> bool
@@ -81,20 +97,20 @@ fn is_utf_8(v: &[u8]) -> bool
     n == 0
 }
 
-// Whether a text has a format. No text has a format above 3.
+// Whether a text has a format.
 pub fn format_fits(format: u8, v: &[u8]) -> bool
     ensures { λ r. ⌜ r ≡ formatFits format (now (v .entry)) ⌝ }
 {
-    if format == 0 {
-        return all_within(v, 0x30, 0x39);
+    if format == NUMERIC {
+        return all_within(v, b'0', b'9');
     }
-    if format == 1 {
+    if format == ALPHANUMERIC {
         return is_alphanumeric(v);
     }
-    if format == 2 {
+    if format == UTF_8 {
         return is_utf_8(v);
     }
-    format == 3
+    format == BINARY
 }
 
 fn has_two_equal(v: &[u8]) -> bool
@@ -113,10 +129,7 @@ fn has_two_equal(v: &[u8]) -> bool
 fn are_equal(x: u8, y: u8, z: u8) -> bool
     ensures { λ r. ⌜ r ≡ (eqb x y && eqb y z) ⌝ }
 {
-    if x != y {
-        return false;
-    }
-    y == z
+    (x == y) & (y == z)
 }
 
 fn has_three_equal(v: &[u8]) -> bool
@@ -167,10 +180,7 @@ fn is_stepped(v: &[u8]) -> bool
     if v.len() < 2 {
         return false;
     }
-    if is_run(true, v) {
-        return true;
-    }
-    is_run(false, v)
+    is_run(true, v) | is_run(false, v)
 }
 
 // Whether a pattern was found that its bit forbids.
@@ -178,42 +188,28 @@ fn is_forbidden(bit: u8, patterns: u8, found: bool) -> bool
     requires { ⌜ 0 < bit ⌝ }
     ensures { λ r. ⌜ r ≡ (isSet bit patterns && found) ⌝ }
 {
-    if patterns / bit % 2 == 1 {
-        return found;
-    }
-    false
+    (patterns / bit % 2 == 1) & found
 }
 
 pub fn pattern_fits(patterns: u8, v: &[u8]) -> bool
     ensures { λ r. ⌜ r ≡ patternFits patterns (now (v .entry)) ⌝ }
 {
-    if is_forbidden(1, patterns, has_two_equal(v)) {
-        return false;
-    }
-    if is_forbidden(2, patterns, has_three_equal(v)) {
-        return false;
-    }
-    !is_forbidden(4, patterns, is_stepped(v))
+    let two = is_forbidden(TWO_EQUAL, patterns, has_two_equal(v));
+    let three = is_forbidden(THREE_EQUAL, patterns, has_three_equal(v));
+    !two & (!three & !is_forbidden(STEPPED, patterns, is_stepped(v)))
 }
 
 fn length_fits(shortest: u8, longest: u8, v: &[u8]) -> bool
     ensures { λ r. ⌜ r ≡ within shortest longest (length (now (v .entry))) ⌝ }
 {
-    if v.len() < shortest as usize {
-        return false;
-    }
-    v.len() <= longest as usize
+    (shortest as usize <= v.len()) & (v.len() <= longest as usize)
 }
 
 // Whether a PIN meets the rule of a policy's record: length, format, patterns.
 pub fn pin_fits(policy: &[u8], v: &[u8]) -> bool
     ensures { λ r. ⌜ r ≡ pinFits (now (policy .entry)) (now (v .entry)) ⌝ }
 {
-    if !length_fits(byte_at(policy, 52), byte_at(policy, 53), v) {
-        return false;
-    }
-    if !format_fits(byte_at(policy, 1), v) {
-        return false;
-    }
-    pattern_fits(byte_at(policy, 51), v)
+    let long = length_fits(byte_at(policy, MIN_LENGTH), byte_at(policy, MAX_LENGTH), v);
+    let formed = format_fits(byte_at(policy, paper::FORMAT), v);
+    long & (formed & pattern_fits(byte_at(policy, PATTERNS), v))
 }

@@ -1,21 +1,17 @@
 -- Plans of a close and of a new PIN, and what a plan comes to once it is carried out.
-use mathlib.Core.Bool.{Bool, true, false, cond, _||_, and-false}
-use mathlib.Core.Path.{_≡_, refl, _∙_}
+use mathlib.Core.Bool.{true, false}
+use mathlib.Core.Path.{_≡_, _∙_}
 use mathlib.Core.List.{List, [], map}
 use Prim.Native.Nat.{ℕ, _+_, _/_, _≤_, _<_}
 use native.Mathlib.Nat.{zero-add}
 use native.Mathlib.Omega.{arith}
-use borrow.Author.Tests.{eqb-true, le-leb, lt-leb}
-use lib.Dec.{eqb}
+use borrow.Author.Tests.{le-leb, lt-leb}
 use lib.ListN.{length, getD, set, length-set}
 use lib.Seq.{getD-set-same, getD-set-other}
 use Rattle.paper.specs.Bytes.{byte}
-use Rattle.paper.specs.Form.{Rec, _==_, _and_, some, test}
-use Rattle.paper.specs.Records.{records, kind, POLICY, KEY, PENDING, own, parent, grouping}
-use Rattle.paper.specs.Sound.{governs}
-use Rattle.paper.specs.Pin.{theKey}
+use Rattle.paper.specs.Form.{Rec, _==_, some, test}
+use Rattle.paper.specs.Records.{records, own}
 use Rattle.paper.specs.Closing.{Keys as Set, holds}
-use Rattle.paper.specs.Users.{givenPin}
 use Rattle.paper.proofs.Forms.{both, cases}
 use Rattle.store_records.proofs.Views.{length-records}
 use Rattle.store_records.specs.View.{Becomes}
@@ -25,9 +21,11 @@ use Rattle.effect_plan.proofs.Filled.{fits-plan}
 use Rattle.effect_plan.proofs.Near.{never-true, exists-nowhere}
 use Rattle.effect_deeds.specs.Deeds.{turn, dealt}
 use Rattle.effect_deeds.proofs.Turns.{each-map}
+use Rattle.effect_deeds.specs.declared.Pinned.{Pinned}
+use Rattle.effect_deeds.specs.declared.Span.{Span}
 use Rattle.effect_deeds.specs.declared.Deed.{Deed}
 use Rattle.effect_deeds.specs.declared.Deed.the-variants.{Close}
-use Rattle.effect_deeds.specs.Outcome.{closeFate, givenAs, Lower, Higher, pinFate, deedFate, outcome, unlessLong}
+use Rattle.effect_deeds.specs.Outcome.{closeFate, given, givenAs, Widened, deedFate, outcome, unlessLong}
 use Rattle.effect_deeds.proofs.Outcomes.{deed-done}
 
 -- a close writes its numbers over those of its keys' plan: the first i are written
@@ -54,45 +52,25 @@ module _ {t : ℕ} {rs : List Rec} {p : List ℕ} {i : ℕ} (inv : Shutting t rs
   pub shut-done : length rs ≤ i → Plan (deedFate (Close t) rs) rs p
   shut-done h = record { at = λ j l. inv .written j (omega arith) }
 
--- what becomes of a record where a key gets a PIN, by the record's kind
-module _ (x pol : Rec) (rs : List Rec) (r : Rec) where
-  pub not-given : eqb (kind r) KEY ≡ false → test (givenPin x pol r) ≡ false
-  not-given e = rw (e, and-false (eqb (kind pol) POLICY), and-false (eqb (grouping pol) 1))
+-- a span wide enough for the first i records
+pub record Spanned (g : Pinned) (rs : List Rec) (s : Span) (i : ℕ) : Type 0 where
+  pub from : (j : ℕ) → j < i → test (given g (getD rs j [])) ≡ true → s .low ≤ own (getD rs j [])
+  pub to : (j : ℕ) → j < i → test (given g (getD rs j [])) ≡ true → own (getD rs j []) ≤ s .high
 
-  pub pin-pending : eqb (kind r) PENDING ≡ true → _≡_ {A = ℕ} (cond (test (some rs (givenAs x pol (parent r)))) 4 0) (pinFate x pol rs r)
-  unfolding pinFate
-  pin-pending e = let f : eqb (kind r) KEY ≡ false = rw (eqb-true (kind r) PENDING e) in rw (not-given f, e)
+pub span-next : {g : Pinned} {rs : List Rec} {s t : Span} {i : ℕ} (r : Rec) → Spanned g rs s i → r ≡ getD rs i [] → Widened g r s t → Spanned g rs t (i + 1)
+span-next {rs = rs} {s = s} {t = t} {i = i} r inv e w =
+    record {
+      from = λ j l q. cases (j == i) (λ p. rw (p, ← e) (w .from (rw (e, ← p) q))) (λ p. let k = inv .from j (omega arith) q in let m = w .down in omega arith);
+      to = λ j l q. cases (j == i) (λ p. rw (p, ← e) (w .to (rw (e, ← p) q))) (λ p. let k = inv .to j (omega arith) q in let m = w .up in omega arith);
+    }
 
-  pub pin-other : eqb (kind r) PENDING ≡ false → eqb (kind r) KEY ≡ false → 0 ≡ pinFate x pol rs r
-  unfolding pinFate
-  pin-other e f = rw (not-given f, e)
-
-  pub pin-key : eqb (kind r) PENDING ≡ false → _≡_ {A = ℕ} (cond (test (theKey x r)) 7 (cond (test (grouping pol == 1 and governs pol r)) 6 0)) (pinFate x pol rs r)
-  unfolding pinFate
-  pin-key e = rw e (go (test (theKey x r)) (test (grouping pol == 1 and governs pol r)))
-    where
-      go : (a b : Bool) → _≡_ {A = ℕ} (cond a 7 (cond b 6 0)) (cond (a || b) (cond a 7 6) 0)
-      go true b = refl
-      go false true = refl
-      go false false = refl
-
--- bounds on the handles of those that get the PIN, met by the first i records
-module _ (x pol : Rec) (rs : List Rec) where
-  abbrev pub Below : ℕ → ℕ → Type 0
-  Below a i = (j : ℕ) → j < i → test (givenPin x pol (getD rs j [])) ≡ true → a ≤ own (getD rs j [])
-
-  abbrev pub Above : ℕ → ℕ → Type 0
-  Above b i = (j : ℕ) → j < i → test (givenPin x pol (getD rs j [])) ≡ true → own (getD rs j []) ≤ b
-
-  pub below-next : (a b i : ℕ) (r : Rec) → Below a i → r ≡ getD rs i [] → Lower x pol r a b → Below b (i + 1)
-  below-next a b i r inv e w = λ j l t. cases (j == i) (λ q. rw (q, ← e) (w .met (rw (e, ← q) t))) (λ q. let k : a ≤ own (getD rs j []) = inv j (omega arith) t in let m : b ≤ a = w .kept in omega arith)
-
-  pub above-next : (a b i : ℕ) (r : Rec) → Above a i → r ≡ getD rs i [] → Higher x pol r a b → Above b (i + 1)
-  above-next a b i r inv e w = λ j l t. cases (j == i) (λ q. rw (q, ← e) (w .met (rw (e, ← q) t))) (λ q. let k : own (getD rs j []) ≤ a = inv j (omega arith) t in let m : a ≤ b = w .kept in omega arith)
-
-  -- no key has a handle outside of them
-  pub outside : (k : ℕ) → ((j : ℕ) → j < length rs → test (givenPin x pol (getD rs j [])) ≡ true → own (getD rs j []) ≡ k → ⊥) → test (some rs (givenAs x pol k)) ≡ false
-  outside k h = exists-nowhere (λ y. test (givenAs x pol k y)) rs (λ j l. never-true _ (λ t. h j l (both (givenPin x pol (getD rs j [])) .1 (both (givenAs x pol k (getD rs j [])) .0 t .0)) (both (givenAs x pol k (getD rs j [])) .0 t .1)))
+-- no key outside of it gets the PIN
+pub outside : (g : Pinned) (rs : List Rec) (k : ℕ) → ((j : ℕ) → j < length rs → test (given g (getD rs j [])) ≡ true → own (getD rs j []) ≡ k → ⊥)
+    → test (some rs (givenAs g k)) ≡ false
+outside g rs k h =
+    exists-nowhere (λ y. test (givenAs g k y)) rs (λ j l. never-true _ (λ t.
+    let w = both (givenAs g k (getD rs j [])) .0 t in
+    h j l (both (given g (getD rs j [])) .1 (w .0)) (w .1)))
 
 module _ (v : List ℕ) (d : Deed) (s : List ℕ) where
   -- of a store that is not too long

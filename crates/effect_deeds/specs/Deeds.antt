@@ -9,18 +9,28 @@ use Rattle.paper.specs.Records.{zeros}
 use Rattle.paper.specs.Pin.{clear}
 use Rattle.paper.specs.Closing.{stale, shut}
 use Rattle.paper.specs.Users.{newPin}
+use Rattle.effect_plan.specs.Fate.{FREED, KEY_CLEARED, PUK_CLEARED, MADE_STALE}
 
--- 1 freed, 2 and 3 the count at that byte becomes 0, 4 marked stale, 5 a session shut, 6 a key with the new PIN v, 7 the same with its
--- count 0. By any other number it stays.
+-- Besides the numbers of keys removed and unlocked: a session shut, a key with the new PIN, the same with its count 0.
+abbrev pub SHUT : ℕ
+SHUT = 5
+
+abbrev pub NEW_PIN : ℕ
+NEW_PIN = 6
+
+abbrev pub NEW_PIN_CLEARED : ℕ
+NEW_PIN_CLEARED = 7
+
+-- What becomes of a record by its number; v is the new PIN. By any other number it stays.
 unfoldable pub done : List ℕ → ℕ → Rec → Rec
 done v n r =
-    cond (eqb n 1) zeros
-    (cond (eqb n 2) (clear 2 r)
-    (cond (eqb n 3) (clear 3 r)
-    (cond (eqb n 4) (stale r)
-    (cond (eqb n 5) (shut r)
-    (cond (eqb n 6) (newPin v r)
-    (cond (eqb n 7) (clear 2 (newPin v r)) r))))))
+    cond (eqb n FREED) zeros
+    (cond (eqb n KEY_CLEARED) (clear 2 r)
+    (cond (eqb n PUK_CLEARED) (clear 3 r)
+    (cond (eqb n MADE_STALE) (stale r)
+    (cond (eqb n SHUT) (shut r)
+    (cond (eqb n NEW_PIN) (newPin v r)
+    (cond (eqb n NEW_PIN_CLEARED) (clear 2 (newPin v r)) r))))))
 
 -- An edit of each record that goes by its place, the first of which is i.
 unfoldable pub eachAt : (ℕ → Rec → Rec) → ℕ → List Rec → List Rec

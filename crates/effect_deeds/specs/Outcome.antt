@@ -1,5 +1,4 @@
--- What becomes of every record at once, and the number for each that says so. Numbers are those of a plan: 0 stays, 1 freed, 4 marked
--- stale, 5 shut, 6 a new PIN, 7 a new PIN and no errors.
+-- What becomes of every record at once, and the number for each that says so.
 use mathlib.Core.Bool.{true, cond}
 use mathlib.Core.Path.{_≡_}
 use mathlib.Core.List.{List, []}
@@ -7,58 +6,70 @@ use Prim.Native.Nat.{ℕ, _≤_, _<_}
 use lib.Dec.{leb}
 use lib.ListN.{length, getD}
 use Rattle.paper.specs.Limits.{mostRecords}
-use Rattle.paper.specs.Form.{Rec, Form, _==_, _and_, some, test}
-use Rattle.paper.specs.Records.{kind, SESSION, PENDING, own, parent, bears}
-use Rattle.paper.specs.Pin.{theKey}
-use Rattle.paper.specs.Closing.{holds, hasKey, effect, closing}
-use Rattle.paper.specs.Posting.{target}
-use Rattle.paper.specs.Users.{policyOf, givenPin, changed}
+use Rattle.paper.specs.Form.{Rec, Form, _==_, say, _and_, _or_, some, test, only}
+use Rattle.paper.specs.Records.{kind, SESSION, POLICY, KEY, PENDING, is, own, session, parent, grouping, bears}
+use Rattle.paper.specs.Pin.{clear}
+use Rattle.paper.specs.Closing.{holds, hasKey, effect, closing, stale}
+use Rattle.paper.specs.Users.{newPin}
 use Rattle.effect_plan.specs.Sets.{keysOf}
-use Rattle.effect_plan.specs.Fate.{fate}
+use Rattle.effect_plan.specs.Fate.{STAYS, FREED, MADE_STALE, fate}
+use Rattle.effect_deeds.specs.Deeds.{SHUT, NEW_PIN, NEW_PIN_CLEARED}
+use Rattle.effect_deeds.specs.declared.Pinned.{Pinned}
+use Rattle.effect_deeds.specs.declared.Span.{Span}
 use Rattle.effect_deeds.specs.declared.Deed.{Deed}
 use Rattle.effect_deeds.specs.declared.Deed.the-variants.{Effect, Close, Change}
 
 -- At the close of session t: its own pendings are freed, and itself is shut, or freed if it has no key. Another's record has number n.
 unfoldable pub closeFate : ℕ → ℕ → List Rec → Rec → ℕ
 closeFate t n rs r =
-    cond (test (bears t r)) (cond (test (kind r == PENDING)) 1 (cond (test (kind r == SESSION)) (cond (test (hasKey t rs)) 5 1) 0))
-    n
+    cond (test (bears t r))
+    (cond (test (kind r == PENDING)) FREED (cond (test (kind r == SESSION)) (cond (test (hasKey t rs)) SHUT FREED) STAYS)) n
 
--- A key of this handle that gets the PIN of x.
-abbrev pub givenAs : Rec → Rec → ℕ → Rec → Form
-givenAs x pol k y = givenPin x pol y and own y == k
+-- The paper's change of a PIN by the numbers of the key and its policy: who gets it, and what becomes of every record.
+abbrev pub pinnedBy : Rec → Rec → Pinned
+pinnedBy x pol = record { key = own x; home = session x; policy = parent x; shared = test (kind pol == POLICY and grouping pol == 1) }
 
--- A bound on the handles of those that get it, made lower or higher by one record: it still holds of whoever it held of.
-pub record Lower (x pol r : Rec) (low a : ℕ) : Type 0 where
-  pub kept : a ≤ low
-  pub met : test (givenPin x pol r) ≡ true → a ≤ own r
+abbrev pub itself : Pinned → Rec → Form
+itself g r = is KEY (g .key) (g .home) r
 
-pub record Higher (x pol r : Rec) (high b : ℕ) : Type 0 where
-  pub kept : high ≤ b
-  pub met : test (givenPin x pol r) ≡ true → own r ≤ b
+abbrev pub given : Pinned → Rec → Form
+given g r = itself g r or (say (g .shared) and (kind r == KEY and parent r == g .policy and session r == g .home))
 
-abbrev pub FromBelow : Rec → Rec → List Rec → ℕ → Type 0
-FromBelow x pol rs a = (j : ℕ) → j < length rs → test (givenPin x pol (getD rs j [])) ≡ true → a ≤ own (getD rs j [])
+-- A key of this handle that gets it.
+abbrev pub givenAs : Pinned → ℕ → Rec → Form
+givenAs g k y = given g y and own y == k
 
-abbrev pub FromAbove : Rec → Rec → List Rec → ℕ → Type 0
-FromAbove x pol rs b = (j : ℕ) → j < length rs → test (givenPin x pol (getD rs j [])) ≡ true → own (getD rs j []) ≤ b
+unfoldable pub repinned : Pinned → List ℕ → List Rec → Rec → Rec
+repinned g v rs r =
+    only (λ q. kind q == PENDING and some rs (givenAs g (parent q))) stale (only (itself g) (clear 2) (only (given g) (newPin v) r))
 
--- Where the key x of the policy gets a new PIN.
-unfoldable pub pinFate : Rec → Rec → List Rec → Rec → ℕ
-pinFate x pol rs r =
-    cond (test (givenPin x pol r)) (cond (test (theKey x r)) 7 6)
-    (cond (test (kind r == PENDING and some rs (givenAs x pol (parent r)))) 4 0)
+-- A span of handles, and the same wide enough for one record more.
+pub record Widened (g : Pinned) (r : Rec) (s t : Span) : Type 0 where
+  pub down : t .low ≤ s .low
+  pub up : s .high ≤ t .high
+  pub from : test (given g r) ≡ true → t .low ≤ own r
+  pub to : test (given g r) ≡ true → own r ≤ t .high
+
+-- All that get the PIN have handles in it.
+pub record Spans (g : Pinned) (rs : List Rec) (s : Span) : Type 0 where
+  pub from : (j : ℕ) → j < length rs → test (given g (getD rs j [])) ≡ true → s .low ≤ own (getD rs j [])
+  pub to : (j : ℕ) → j < length rs → test (given g (getD rs j [])) ≡ true → own (getD rs j []) ≤ s .high
+
+unfoldable pub pinFate : Pinned → List Rec → Rec → ℕ
+pinFate g rs r =
+    cond (test (given g r)) (cond (test (itself g r)) NEW_PIN_CLEARED NEW_PIN)
+    (cond (test (kind r == PENDING and some rs (givenAs g (parent r)))) MADE_STALE STAYS)
 
 abbrev pub deedFate : Deed → List Rec → Rec → ℕ
 deedFate (Effect ds us) rs = fate (keysOf ds rs) (keysOf us rs) rs
 deedFate (Close t) rs = λ r. closeFate t (fate (holds t 50 rs) (holds t 51 rs) rs r) rs r
-deedFate (Change k) rs = pinFate (target k rs) (policyOf (target k rs) rs) rs
+deedFate (Change g) rs = pinFate g rs
 
 -- The same as the paper's edits of each record; v is the new PIN.
 abbrev pub outcome : List ℕ → Deed → List Rec → Rec → Rec
 outcome v (Effect ds us) rs = effect (keysOf ds rs) (keysOf us rs) rs
 outcome v (Close t) rs = closing t rs
-outcome v (Change k) rs = changed (target k rs) (policyOf (target k rs) rs) v rs
+outcome v (Change g) rs = repinned g v rs
 
 -- A plan has room for 256 records: a store of more stays as it is.
 unfoldable pub unlessLong : List Rec → List Rec → List Rec

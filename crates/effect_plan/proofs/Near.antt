@@ -10,7 +10,7 @@ use lib.ListN.{length, getD}
 use Rattle.paper.specs.Bytes.{byte}
 use Rattle.paper.specs.Form.{Rec, Form, _==_, _and_, test, exists}
 use Rattle.paper.specs.Records.{records, kind, own, session, parent, state, SESSION, CLOSED, PUK, POLICY, KEY, PENDING}
-use Rattle.paper.specs.Closing.{Keys as Set, keyGoes, policyGoes, pukGoes, sessionGoes, keyUnlocked, pukUnlocked, one}
+use Rattle.paper.specs.Closing.{Keys as Set, keyGoes, policyGoes, pukGoes, sessionGoes, keyUnlocked, pukUnlocked}
 use Rattle.paper.proofs.Forms.{both, cases, contrary}
 use Rattle.store_records.proofs.Views.{length-records}
 use Rattle.effect_plan.specs.declared.Homes.{Homes}

@@ -2,12 +2,12 @@
 -- or it is marked stale. The order is that of the paper's `effect`.
 use mathlib.Core.Bool.{cond}
 use mathlib.Core.Path.{_≡_}
-use mathlib.Core.List.{List, []}
-use Prim.Native.Nat.{ℕ, _<_}
+use mathlib.Core.List.{List, [], _++_, map}
+use Prim.Native.Nat.{ℕ, _-_, _<_}
 use lib.Dec.{leb}
-use lib.ListN.{length, getD}
+use lib.ListN.{length, getD, take}
 use Rattle.paper.specs.Limits.{mostRecords}
-use Rattle.paper.specs.Bytes.{byte}
+use Rattle.paper.specs.Bytes.{byte, zerosOf}
 use Rattle.paper.specs.Form.{Rec, _or_, test}
 use Rattle.paper.specs.Closing.{Keys, goes, keyUnlocked, pukUnlocked, pendingOn}
 
@@ -37,6 +37,9 @@ fate d u rs r =
 pub record Plan (f : Rec → ℕ) (rs : List Rec) (p : List ℕ) : Type 0 where
   pub at : (i : ℕ) → i < length rs → byte i p ≡ f (getD rs i [])
 
--- It has room for 256 records: those of a longer store all stay.
+-- It has room for 256 records: those of a longer store all stay. Behind the last record it has zeros, so that the records determine it.
+unfoldable pub planOf : (Rec → ℕ) → List Rec → List ℕ
+planOf f rs = take mostRecords (map f rs) ++ zerosOf (mostRecords - length rs)
+
 unfoldable pub fitting : List Rec → (Rec → ℕ) → Rec → ℕ
 fitting rs f r = cond (leb (length rs) mostRecords) (f r) STAYS

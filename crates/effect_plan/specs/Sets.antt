@@ -9,7 +9,7 @@ use Rattle.paper.specs.Bytes.{byte}
 use Rattle.paper.specs.Form.{Rec, Form, _==_, no, _and_, _or_, some, test}
 use Rattle.paper.specs.Records.{kind, SESSION, POLICY, KEY, own, session, parent, operation}
 use Rattle.paper.specs.Closing.{Keys as Set, noKeys, one, held, holds, isPending, keyGoes, policyGoes, pukGoes, sessionGoes, keyUnlocked, pendingOn}
-use Rattle.effect_plan.specs.Fate.{fate, Plan}
+use Rattle.effect_plan.specs.Fate.{fate, planOf}
 use Rattle.effect_plan.specs.declared.Keys.{Keys}
 use Rattle.effect_plan.specs.declared.Keys.the-variants.{Nobody, One, Two, Three, Held}
 use Rattle.effect_plan.specs.declared.Homes.{Homes}
@@ -116,4 +116,4 @@ abbrev pub Settled : List Rec → List ℕ → List ℕ → Homes → Homes → 
 Settled rs md mu hd hu n f = (d u : Set) → Marked d rs md → Marked u rs mu → AtHome d rs (homesOf hd) → AtHome u rs (homesOf hu) → n ≡ f d u
 
 abbrev pub Decided : List Rec → List ℕ → List ℕ → List ℕ → Type 0
-Decided rs md mu p = (d u : Set) → Marked d rs md → Marked u rs mu → Plan (fate d u rs) rs p
+Decided rs md mu p = (d u : Set) → Marked d rs md → Marked u rs mu → p ≡ planOf (fate d u rs) rs

@@ -1,13 +1,13 @@
 -- Laws of the two loops over a block's bytes: a copy in front of zeros, and an XOR with one byte.
-use mathlib.Core.Path.{_≡_, ap, _∙_}
+use mathlib.Core.Path.{_≡_, ap}
 use mathlib.Core.List.{List, [], _∷_, _++_, map-append}
-use Prim.Native.Nat.{ℕ, zero, suc, _+_, _-_, _≤_, _<_}
-use native.Mathlib.Nat.{le-of-suc-le-suc, not-suc-le-zero}
+use Prim.Native.Nat.{ℕ, suc, _+_, _-_, _≤_, _<_}
 use native.Mathlib.Numerals.{add-one}
 use native.Mathlib.Omega.{arith}
 use lib.Bits.{bitXor}
 use lib.ListN.{length, getD, take, drop, set, replicate}
 use lib.Seq.{take-suc, drop-cons, set-at, length-take-le, append-snoc, take-suc-set, take-all, take-length}
+use Rattle.sha256.proofs.Standing.{drop-zeros}
 use Rattle.hmac.specs.Hmac.{xored, filled}
 
 -- one byte more is copied
@@ -15,15 +15,6 @@ pub copy-more : (s z : List ℕ) (i : ℕ) → i < length s → i < length z
     → set (take i s ++ drop i z) i (getD s i 0) ≡ take (i + 1) s ++ drop (i + 1) z
 copy-more s z i hs hz =
     rw (add-one, take-suc s i 0 hs, append-snoc, drop-cons z i 0 hz) (set-at (take i s) (getD z i 0) (drop (suc i) z) (getD s i 0) i (length-take-le i s (omega arith)))
-
-drop-zeros : (n k : ℕ) → k ≤ n → drop k (replicate {A = ℕ} n 0) ≡ replicate (n - k) 0
-drop-zeros n zero h =
-    let e : n ≡ n - 0 = omega arith in
-    ap (λ (j : ℕ). replicate j 0) e
-drop-zeros zero (suc k) h = absurd (not-suc-le-zero h)
-drop-zeros (suc n) (suc k) h =
-    let e : n - k ≡ suc n - suc k = omega arith in
-    drop-zeros n k (le-of-suc-le-suc h) ∙ ap (λ (j : ℕ). replicate j 0) e
 
 -- all are copied
 pub copied : (s b : List ℕ) (i : ℕ) → length s ≤ 64 → i ≤ length s → length s ≤ i → b ≡ take i s ++ drop i (replicate 64 0) → b ≡ filled s

@@ -1,6 +1,7 @@
 // HMAC-SHA-256 (RFC 2104) in pieces, for keys of any length, and a comparison that looks at every byte.
 // What the MAC is stands in specs/Hmac.antt; what a MAC under way stands for in specs/Keyed.antt.
 use sha256::State;
+use sha256::Words;
 ghost use mathlib.Core.Path.{_≡_};
 ghost use mathlib.Core.List.{List, [], _++_};
 ghost use Prim.Native.Nat.{ℕ, _≤_};
@@ -9,10 +10,10 @@ ghost use Rattle.hmac.specs.Hmac.{filled, keyBlock, xored, HMAC};
 ghost use Rattle.hmac.specs.Keyed.{Keyed};
 ghost use Rattle.hmac.specs.Same.{same};
 
-// A MAC under way: the hash that has taken the inner key block, and the one that has taken the outer.
+// A MAC under way, 136 bytes: the hash that has taken the inner key block, and the hash value of the outer.
 pub struct Mac {
     inner: State,
-    outer: State,
+    outer: Words,
 }
 
 // The bytes of s, with zeros behind them.
@@ -60,7 +61,7 @@ pub fn start(key: &[u8]) -> Mac
     let i = xor_all(b, 0x36);
     let o = xor_all(b, 0x5c);
     let inner = sha256::update(sha256::start(), &i);
-    let outer = sha256::update(sha256::start(), &o);
+    let outer = sha256::value(sha256::update(sha256::start(), &o));
     Mac {
         inner: inner,
         outer: outer,
@@ -84,7 +85,7 @@ pub fn finish(s: Mac) -> [u8; 32]
     ensures { λ r. ⌜ ((k text : List ℕ) → Keyed s k text → r ≡ HMAC k text) ⌝ }
 {
     let t = sha256::finish(s.inner);
-    sha256::finish(sha256::update(s.outer, &t))
+    sha256::finish(sha256::update(sha256::resume(s.outer), &t))
 }
 
 // The MAC of a slice.

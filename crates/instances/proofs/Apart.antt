@@ -1,6 +1,6 @@
 -- The two orders, not for want of such calls: session 2 holds one key's removal and closes, session 3 asks for the unlocking of another
 -- key under the same policy. Every premise holds, and the two orders leave the new pending at different places.
-use mathlib.Core.Path.{_≡_, refl, sym, ap, _∙_, subst}
+use mathlib.Core.Path.{_≡_, refl, sym, ap, subst}
 use mathlib.Core.Bool.{Bool, true, false, _||_}
 use mathlib.Core.List.{List, []}
 use mathlib.Core.Logic.{inl, inr}
@@ -16,14 +16,16 @@ use Rattle.paper.specs.Form.{Rec, some, Fact}
 use Rattle.paper.specs.Records.{recordsOf, records, joined, at}
 use Rattle.paper.specs.Table.{obeysTable}
 use Rattle.paper.specs.Sound.{lengthFits, sound}
+use Rattle.paper.specs.Calls.{method}
 use Rattle.paper.specs.Closing.{held}
-use Rattle.paper.specs.Answer.{Answer, isOpen}
+use Rattle.paper.specs.Answer.{isOpen}
 use Rattle.paper.proofs.Forms.{both, contrary}
 use Rattle.worked.specs.Hex.{hex}
-use Rattle.rule.specs.Runs.{Call, answered}
+use Rattle.rule.specs.Runs.{Call}
 use Rattle.rule.specs.Stands.{Holds}
-use Rattle.rule.specs.Orders.{CallOn, asks, names, closedKey, NamesOnlyThose, Wants, Premises, SameOutcome}
+use Rattle.rule.specs.Orders.{CallOn, asks, closedKey, NamesOnlyThose, Wants, Premises, SameOutcome}
 use Rattle.rule.proofs.Orders.{orders}
+use Rattle.instances.proofs.Pair.{with-names, close-first, on-session, no-two}
 use Rattle.instances.proofs.ApartCloseFirst as ab
 use Rattle.instances.proofs.ApartPostFirst as ba
 
@@ -57,21 +59,17 @@ open-b = refl
 
 on-a : CallOn a p
 unfolding allWithin byte four
-on-a = record { areBytes = refl; onSession = inl refl; itsHandle = refl }
+on-a = on-session a p refl refl refl
 
 on-b : CallOn b q
 unfolding allWithin byte four
-on-b = record { areBytes = refl; onSession = inr (inr (inr (inr (inr (inr (inr (inl refl))))))); itsHandle = refl }
+on-b = on-session b q refl refl refl
 
--- a close names nothing; the post names a key of a closed session
-silent : (h : ℕ) → Fact (names p h) → ⊥
+is-close : method (p .bytes) ≡ 3
 unfolding byte
-silent h (inl w) = let e : _≡_ {A = ℕ} 3 9 = w .0 in omega arith
-silent h (inr (inl w)) = let e : _≡_ {A = ℕ} 3 10 = w .0 in omega arith
-silent h (inr (inr (inl w))) = let e : _≡_ {A = ℕ} 3 12 = w .0 in omega arith
-silent h (inr (inr (inr (inl i, w)))) = let e : _≡_ {A = ℕ} 3 50 = i in omega arith
-silent h (inr (inr (inr (inr i, w)))) = let e : _≡_ {A = ℕ} 3 51 = i in omega arith
+is-close = refl
 
+-- the post names a key of a closed session
 asked : (k : ℕ) → Fact (asks q k) → 65540 ≡ k
 unfolding byte four
 asked k w = w .1 .1 .0
@@ -100,39 +98,16 @@ held-by-b : (k : ℕ) → Holds b k store → ⊥
 unfolding records recordsOf joined byte four
 held-by-b k h = contrary (sym (both (some (records store) (held b k)) .1 h))
 
-not-both : (k : ℕ) → Wants a p k store → Wants b q k store → ⊥
-not-both k (inl h) (inl h′) = held-by-b k h′
-not-both k (inl h) (inr w) = let i = held-by-a k h in let j = asked k w in omega arith
-not-both k (inr w) v = silent k (inr (inr (inr w)))
-
--- no status 2
-first-ab : answered store p .status ≡ 0
-first-ab = ap (λ (x : Answer). x .status) ab.step-1
-
-second-ab : answered (answered store p .store) q .status ≡ 0
-second-ab = ap (λ (s : List ℕ). answered s q .status) (ap (λ (x : Answer). x .store) ab.step-1) ∙ ap (λ (x : Answer). x .status) ab.step-2
-
-first-ba : answered store q .status ≡ 0
-first-ba = ap (λ (x : Answer). x .status) ba.step-1
-
-second-ba : answered (answered store q .store) p .status ≡ 0
-second-ba = ap (λ (s : List ℕ). answered s p .status) (ap (λ (x : Answer). x .store) ba.step-1) ∙ ap (λ (x : Answer). x .status) ba.step-2
+not-both : (k : ℕ) → Holds a k store → Wants b q k store → ⊥
+not-both k h (inl h′) = held-by-b k h′
+not-both k h (inr w) = let i = held-by-a k h in let j = asked k w in omega arith
 
 pub premises : Premises store a b p q
 premises =
-    record {
-      isSound = is-sound;
-      different = λ e. omega arith;
-      openA = open-a;
-      openB = open-b;
-      onA = on-a;
-      onB = on-b;
-      namesA = λ h w. absurd (silent h w);
-      namesB = names-b;
-      notBoth = not-both;
-      roomAB = record { atFirst = λ e. let i = first-ab in omega arith; atSecond = λ e. let i = second-ab in omega arith };
-      roomBA = record { atFirst = λ e. let i = first-ba in omega arith; atSecond = λ e. let i = second-ba in omega arith };
-    }
+    with-names store a b p q
+    (close-first p is-close store a b q is-sound (λ e. omega arith) open-a open-b on-a on-b not-both (no-two store p q ab.step-1 ab.step-2 refl refl)
+    (no-two store q p ba.step-1 ba.step-2 refl refl))
+    names-b
 
 pub outcome : SameOutcome store p q
 outcome = orders store a b p q premises

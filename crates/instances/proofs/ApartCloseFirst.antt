@@ -12,17 +12,23 @@ use Rattle.paper.specs.Bytes.{byte, two, four, part, over, stringAt, behind, te
 use Rattle.paper.specs.Closing.{stale, effect, holds, shut, sealed, closing, carryOut, closedLiterally}
 use Rattle.paper.specs.Form.{only}
 use Rattle.paper.specs.Mac.{macUnder}
-use Rattle.paper.specs.Objects.{pukRecord, policyRecord, keyRecord, certified, makePolicyBy, makePukBy, makeKeyBy, setPathBy}
+use Rattle.paper.specs.Objects.{pukRecord, makePukBy, policyRecord, makePolicyBy, keyRecord, makeKeyBy, certified, setPathBy}
 use Rattle.paper.specs.Pin.{pinCheck, pukCheck, clear, addOne, pinMissed, pinHit, pukMissed, pukHit}
 use Rattle.paper.specs.Posting.{look, pendingRecord, postBy}
 use Rattle.paper.specs.Records.{recordsOf, records, joined, at, block, zeros, isFree}
-use Rattle.paper.specs.Sessions.{sessionRecord, counted, createSession, abortSession, closeBy}
+use Rattle.paper.specs.Sessions.{sessionRecord, counted, createSession, closeBy, abortSession}
 use Rattle.paper.specs.Sound.{lengthFits, sound}
 use Rattle.paper.specs.Table.{obeysTable}
 use Rattle.paper.specs.Text.{alphanumeric, utf8From, formatFits, twoEqualFrom, threeEqualFrom, risingFrom, fallingFrom, patternFits, pinFits}
 use Rattle.paper.specs.Users.{deleteKey, unlockKey, newPin, changed, changePin, useKey}
 use Rattle.paper.specs.Form.{Rec}
 use Rattle.worked.specs.Hex.{row, answers}
+
+abbrev pub call-1 : String
+call-1 = "030002000000014e61b754bd073c01f8b1b55c42e58aa1f0daf4d805b5632365b4b08a69ab4dd315"
+
+abbrev pub call-2 : String
+call-2 = "330003000000010004000441555448270c579b85280ce8aec9fb0068d37c484d8b437286e3282052a8ca1fc95b4c33"
 
 abbrev pub store-0 : List Rec
 store-0 =
@@ -51,13 +57,7 @@ store-1 =
     row "" ∷
     row "" ∷ []
 
-abbrev pub call-1 : String
-call-1 = "030002000000014e61b754bd073c01f8b1b55c42e58aa1f0daf4d805b5632365b4b08a69ab4dd315"
-
-pub step-1 : answers store-0 call-1
-    ""
-    "0000000000a187194ccf4a814195c012459331111e3f9283dfc2ce62fa071c73ce59330ac8"
-    store-1
+pub step-1 : answers store-0 call-1 "" "0000000000a187194ccf4a814195c012459331111e3f9283dfc2ce62fa071c73ce59330ac8" store-1
 unfolding zerosFor padded initial wordAt mixed nextWord schedule T1 T2 round rounds sums compressed after SHA256 filled keyBlock xored HMAC same perform moved advance sessionAct sessionStep userStep step judged written answer freshCounter formatted byte two four part over stringAt behind textAt allWithin stale effect holds shut sealed closing carryOut closedLiterally only macUnder pukRecord makePukBy policyRecord makePolicyBy keyRecord makeKeyBy certified setPathBy pinCheck pukCheck clear addOne pinMissed pinHit pukMissed pukHit look pendingRecord postBy recordsOf records joined at block zeros isFree sessionRecord counted createSession closeBy abortSession lengthFits sound obeysTable alphanumeric utf8From formatFits twoEqualFrom threeEqualFrom risingFrom fallingFrom patternFits pinFits deleteKey unlockKey newPin changed changePin useKey
 step-1 = refl
 
@@ -75,12 +75,6 @@ store-2 =
     row "" ∷
     row "" ∷ []
 
-abbrev pub call-2 : String
-call-2 = "330003000000010004000441555448270c579b85280ce8aec9fb0068d37c484d8b437286e3282052a8ca1fc95b4c33"
-
-pub step-2 : answers store-1 call-2
-    "01"
-    "00000000000000000000000000000000000000000000000000000000000000000000000000"
-    store-2
+pub step-2 : answers store-1 call-2 "01" "00000000000000000000000000000000000000000000000000000000000000000000000000" store-2
 unfolding zerosFor padded initial wordAt mixed nextWord schedule T1 T2 round rounds sums compressed after SHA256 filled keyBlock xored HMAC same perform moved advance sessionAct sessionStep userStep step judged written answer freshCounter formatted byte two four part over stringAt behind textAt allWithin stale effect holds shut sealed closing carryOut closedLiterally only macUnder pukRecord makePukBy policyRecord makePolicyBy keyRecord makeKeyBy certified setPathBy pinCheck pukCheck clear addOne pinMissed pinHit pukMissed pukHit look pendingRecord postBy recordsOf records joined at block zeros isFree sessionRecord counted createSession closeBy abortSession lengthFits sound obeysTable alphanumeric utf8From formatFits twoEqualFrom threeEqualFrom risingFrom fallingFrom patternFits pinFits deleteKey unlockKey newPin changed changePin useKey
 step-2 = refl

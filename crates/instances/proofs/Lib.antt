@@ -1,3 +1,4 @@
+pub mod Pair
 pub mod ApartCloseFirst
 pub mod ApartPostFirst
 pub mod UnnamedCloseFirst

@@ -14,7 +14,7 @@ use Rattle.paper.specs.Form.{Rec}
 use Rattle.paper.specs.Records.{kind}
 use Rattle.paper.specs.Table.{Field, u8, u16, bytes, blank, text, ident, width, fieldFits, fits, isText, isBlank, printable, fieldsOf, obeysTable}
 use Rattle.paper.specs.Act.{flat}
-use Rattle.laws.proofs.Bytes.{list-same, byte-part, length-part, part-short, all-within}
+use Rattle.laws.proofs.Bytes.{byte-zerosOf, list-same, byte-part, length-part, part-short, all-within}
 use Rattle.laws.proofs.Strings.{length-padded, padded-length, padded-zero, text-of}
 use Rattle.laws.proofs.Fields.{joint, right-moved, total, tabled}
 
@@ -118,18 +118,12 @@ unfolding allWithin
 zeros-blank zero = refl
 zeros-blank (suc n) = zeros-blank n
 
-zeros-byte : (n j : ℕ) → byte j (replicate n 0) ≡ 0
-unfolding byte
-zeros-byte zero j = refl
-zeros-byte (suc n) zero = refl
-zeros-byte (suc n) (suc j) = zeros-byte n j
-
 -- zeros, whatever part of them is looked at
 pub blank-zeros : (i n m : ℕ) → isBlank (part i n (zerosOf m)) ≡ true
 blank-zeros i n m =
     all-within 0 0 (part i n (zerosOf m)) (λ j l.
     let s = part-short i n (zerosOf m) in
-    (omega arith, rw (byte-part i n j (zerosOf m) (omega arith), zeros-byte m (i + j)) (omega arith)))
+    (omega arith, rw (byte-part i n j (zerosOf m) (omega arith), byte-zerosOf m (i + j)) (omega arith)))
 
 pub right-blank : (n : ℕ) → fieldFits (blank n) 0 (zerosOf n) ≡ true
 right-blank n = blank-zeros 0 n n

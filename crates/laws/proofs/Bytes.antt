@@ -11,7 +11,7 @@ use lib.ListN.{length, getD, drop, set, length-set, length-take, length-drop, dr
 use lib.Seq.{length-sets, getD-set-same, getD-set-other, drop-cons, getD-take, getD-drop, length-take-le, take-nil, ext-getD}
 use lib.Dec.{leb}
 use borrow.Author.Tests.{leb-true, le-leb}
-use Rattle.paper.specs.Bytes.{byte, two, four, part, enc2, enc4, over, within, allWithin}
+use Rattle.paper.specs.Bytes.{byte, two, four, part, enc2, enc4, over, within, allWithin, zerosOf}
 use Rattle.paper.proofs.Forms.{contrary, cases}
 use Rattle.paper.specs.Form.{_=<_}
 
@@ -23,6 +23,13 @@ split false b e = contrary (sym e)
 pub byte-past : (j : ℕ) (s : List ℕ) → length s ≤ j → byte j s ≡ 0
 unfolding byte
 byte-past j s h = List·getD-eq-default s 0 h
+
+-- every byte of zeros is 0
+pub byte-zerosOf : (n j : ℕ) → byte j (zerosOf n) ≡ 0
+unfolding byte
+byte-zerosOf zero j = refl
+byte-zerosOf (suc n) zero = refl
+byte-zerosOf (suc n) (suc j) = byte-zerosOf n j
 
 -- ---- bytes written over
 

@@ -26,14 +26,19 @@ either false f g = g refl
 pub holds : (φ : Form) → ((Fact φ → ⊥) → ⊥) → Fact φ
 holds φ h = cases φ (λ p. p) (λ n. absurd (h n))
 
+-- the test of a statement that fails
+pub fails : (φ : Form) → (Fact φ → ⊥) → test φ ≡ false
+fails φ n = either (test φ) (λ e. absurd (n (both φ .0 e))) (λ e. e)
+
+-- tests that are true together
+pub same-true : (x y : Bool) → (x ≡ true → y ≡ true) → (y ≡ true → x ≡ true) → x ≡ y
+same-true true y h g = sym (h refl)
+same-true false true h g = g refl
+same-true false false h g = refl
+
 -- tests of statements that say the same
 pub same-test : (φ ψ : Form) → (Fact φ → Fact ψ) → (Fact ψ → Fact φ) → test φ ≡ test ψ
-same-test φ ψ a b = go (test φ) (test ψ) (λ e. both ψ .1 (a (both φ .0 e))) (λ e. both φ .1 (b (both ψ .0 e)))
-  where
-    go : (x y : Bool) → (x ≡ true → y ≡ true) → (y ≡ true → x ≡ true) → x ≡ y
-    go true y h g = sym (h refl)
-    go false true h g = g refl
-    go false false h g = refl
+same-test φ ψ a b = same-true (test φ) (test ψ) (λ e. both ψ .1 (a (both φ .0 e))) (λ e. both φ .1 (b (both ψ .0 e)))
 
 -- what an edit of some records makes of one
 pub only-is : (P : Rec → Type 0) (φ : Rec → Form) (e : Rec → Rec) (x : Rec) → (Fact (φ x) → P (e x)) → ((Fact (φ x) → ⊥) → P x) → P (only φ e x)

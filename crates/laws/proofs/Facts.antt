@@ -3,14 +3,16 @@ use mathlib.Core.Path.{_≡_}
 use mathlib.Core.Bool.{true}
 use mathlib.Core.List.{List, [], _∷_, List·Memᴰ}
 use mathlib.Core.Logic.{inl, inr}
+use Prim.Native.Nat.{ℕ}
 use Rattle.hmac.specs.Same.{same}
 use Rattle.paper.specs.Limits.{pinWidth}
 use Rattle.paper.specs.Bytes.{part}
 use Rattle.paper.specs.Form.{Rec, test, Fact, Pairs}
-use Rattle.paper.specs.Records.{kind, PUK, POLICY, KEY, own, session, grouping}
+use Rattle.paper.specs.Records.{records, kind, PUK, POLICY, KEY, own, session, grouping}
 use Rattle.paper.specs.Table.{obeysTable}
-use Rattle.paper.specs.Sound.{hasCounter, oneCounter, handlesDiffer, sessionCarries, objectCarries, belowNext, belowCounter, idsDiffer, clientsDiffer, sessionThere, pukThere, policyThere, bareKey, pinnedKey, governs, pukForProtection, keyCounts, pukCounts, macCounts, lengthsRise, noDigest, closed, keyThere, pathsSet, child, policiesUsed, keyWiped, pendingOpen, targetUnlessStale, targetThere, targetManaged, targetPinned, onePending, alone, distinct, related, housed, Sound}
+use Rattle.paper.specs.Sound.{hasCounter, oneCounter, handlesDiffer, sessionCarries, objectCarries, belowNext, belowCounter, idsDiffer, clientsDiffer, sessionThere, pukThere, policyThere, bareKey, pinnedKey, governs, pukForProtection, keyCounts, pukCounts, macCounts, lengthsRise, noDigest, closed, keyThere, pathsSet, child, policiesUsed, keyWiped, pendingOpen, targetUnlessStale, targetThere, targetManaged, targetPinned, onePending, alone, distinct, related, housed, Sound, lengthFits, sound}
 use Rattle.paper.proofs.Forms.{both}
+use Rattle.laws.proofs.Bytes.{split}
 use Rattle.laws.proofs.Choice.{holds}
 
 -- ---- of one record
@@ -175,3 +177,8 @@ reify rs F =
         ),
       ),
     )
+
+-- a sound store, as facts
+pub facts-of : (s : List ℕ) → sound s ≡ true → Facts (records s)
+unfolding sound
+facts-of s e = reflect (records s) (split (lengthFits s) (test (Sound (records s))) e .1)

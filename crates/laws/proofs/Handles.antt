@@ -11,34 +11,38 @@ use lib.ListN.{length}
 use lib.Dec.{leb}
 use borrow.Author.Tests.{leb-true, ne-eqb}
 use Rattle.paper.specs.Bytes.{byte, four, part}
-use Rattle.paper.specs.Form.{Rec, _=<_, Fact, some}
+use Rattle.paper.specs.Form.{Rec, _==_, _=<_, Fact, some}
 use Rattle.paper.specs.Records.{kind, zeros, FREE, SESSION, PUK, POLICY, KEY, PENDING, COUNTER, own, session, sessionOf, is, at}
 use Rattle.paper.specs.Table.{Field, isBlank, fieldsOf, obeysTable}
 use Rattle.paper.specs.Sound.{isObject, hasHandle}
+use Rattle.paper.specs.Sessions.{counter}
 use Rattle.paper.proofs.Forms.{cases}
 use Rattle.laws.proofs.Bytes.{split, all-at, byte-part, length-part, list-same}
 use Rattle.laws.proofs.Fields.{field, tabled-field, tabled-length}
 use Rattle.laws.proofs.Choice.{holds}
 use Rattle.laws.proofs.Inserting.{byte-zeros, length-zeros}
-use Rattle.laws.proofs.Lists.{pairs-cases, at-found, at-none}
+use Rattle.laws.proofs.Lists.{sought, pairs-cases, at-found, at-none}
 use Rattle.laws.proofs.Facts.{Alone, Distinct, Facts}
 
 module _ (rs : List Rec) (F : Facts rs) where
-  pub unique : (x y : Rec) → List·Memᴰ x rs → List·Memᴰ y rs → Fact (hasHandle x) → Fact (hasHandle y) → own x ≡ own y → x ≡ y
-  unique x y mx my a b e = go (pairs-cases Distinct rs (F .distinct) x y mx my)
+  -- two records that are not distinct are one
+  one : (x y : Rec) → List·Memᴰ x rs → List·Memᴰ y rs → (Distinct x y → ⊥) → (Distinct y x → ⊥) → x ≡ y
+  one x y mx my a b = go (pairs-cases Distinct rs (F .distinct) x y mx my)
     where
       go : (x ≡ y) ⊎ (Distinct x y ⊎ Distinct y x) → x ≡ y
-      go (inl q) = q
-      go (inr (inl D)) = absurd (D .handlesDiffer a b e)
-      go (inr (inr D)) = absurd (D .handlesDiffer b a (sym e))
+      go (inl e) = e
+      go (inr (inl D)) = absurd (a D)
+      go (inr (inr D)) = absurd (b D)
+
+  pub unique : (x y : Rec) → List·Memᴰ x rs → List·Memᴰ y rs → Fact (hasHandle x) → Fact (hasHandle y) → own x ≡ own y → x ≡ y
+  unique x y mx my a b e = one x y mx my (λ D. D .handlesDiffer a b e) (λ D. D .handlesDiffer b a (sym e))
 
   pub one-counter : (x y : Rec) → List·Memᴰ x rs → List·Memᴰ y rs → kind x ≡ COUNTER → kind y ≡ COUNTER → x ≡ y
-  one-counter x y mx my a b = go (pairs-cases Distinct rs (F .distinct) x y mx my)
-    where
-      go : (x ≡ y) ⊎ (Distinct x y ⊎ Distinct y x) → x ≡ y
-      go (inl q) = q
-      go (inr (inl D)) = absurd (D .oneCounter a b)
-      go (inr (inr D)) = absurd (D .oneCounter b a)
+  one-counter x y mx my a b = one x y mx my (λ D. D .oneCounter a b) (λ D. D .oneCounter b a)
+
+  -- the counter is there
+  pub counter-there : List·Memᴰ (counter rs) rs × (kind (counter rs) ≡ COUNTER)
+  counter-there = sought (λ r. kind r == COUNTER) rs (F .counter)
 
   -- an object's handle tells its session, which is not 0
   pub carries : (x : Rec) → List·Memᴰ x rs → Fact (isObject x) → (sessionOf (own x) ≡ session x) × (1 ≤ session x)

@@ -3,14 +3,15 @@ use mathlib.Core.Path.{_≡_, refl, sym, ap, _∙_, subst}
 use mathlib.Core.Bool.{Bool, true, false, _&&_, _||_, cond}
 use mathlib.Core.List.{List, [], _∷_, List·Memᴰ, List·Memᴰ·head, List·Memᴰ·tail, List·Memᴰ·cases-cons, List·Memᴰ·not-nil}
 use mathlib.Core.Logic.{_⊎_, inl, inr}
-use Prim.Native.Nat.{ℕ, zero, suc, _+_, _≤_}
+use Prim.Native.Nat.{ℕ, suc, _+_, _≤_}
 use native.Mathlib.Omega.{arith}
-use lib.ListN.{length, replicate, length-replicate}
+use lib.ListN.{length, length-replicate}
 use Rattle.hmac.proofs.Sameness.{same-eq, eq-same}
 use Rattle.paper.specs.Bytes.{byte, two, four}
 use Rattle.paper.specs.Form.{Rec, Form, test, every, exists, Pairs, keep, seek}
 use Rattle.paper.specs.Records.{kind, zeros, isFree, insert}
 use Rattle.paper.proofs.Forms.{contrary}
+use Rattle.laws.proofs.Bytes.{byte-zerosOf}
 use Rattle.laws.proofs.Choice.{either}
 
 -- ---- the free record
@@ -28,13 +29,8 @@ unfolding zeros
 length-zeros = length-replicate {A = ℕ} 256 0
 
 pub byte-zeros : (i : ℕ) → byte i zeros ≡ 0
-unfolding byte zeros
-byte-zeros i = go 256 i
-  where
-    go : (n i : ℕ) → byte i (replicate n 0) ≡ 0
-    go zero i = unfold byte in refl
-    go (suc n) zero = unfold byte in refl
-    go (suc n) (suc i) = go n i
+unfolding zeros
+byte-zeros i = byte-zerosOf 256 i
 
 pub two-zeros : (i : ℕ) → two i zeros ≡ 0
 unfolding two

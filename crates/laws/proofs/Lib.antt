@@ -11,5 +11,7 @@ pub mod Stores
 pub mod Losses
 pub mod Verdicts
 pub mod CallStrings
+pub mod CallForms
 pub mod Facts
 pub mod Handles
+pub mod Methods

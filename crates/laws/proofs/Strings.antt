@@ -1,11 +1,11 @@
 -- A record's string: its length byte, its bytes and its zeros are one and the same as the padded string.
-use mathlib.Core.Path.{_≡_, refl, sym, ap, _∙_}
+use mathlib.Core.Path.{_≡_, sym, ap, _∙_}
 use mathlib.Core.Bool.{true}
 use mathlib.Core.List.{List}
 use Prim.Native.Nat.{ℕ, zero, suc, _+_, _-_, _≤_, _<_}
 use native.Mathlib.Omega.{arith}
 use native.Mathlib.Nat.{add-zero}
-use lib.ListN.{length, getD, replicate, length-append, length-replicate, List·getD-append}
+use lib.ListN.{length, length-append, length-replicate, List·getD-append}
 use lib.Seq.{getD-append-add}
 use lib.Dec.{leb}
 use borrow.Author.Tests.{leb-true}
@@ -13,7 +13,7 @@ use Rattle.paper.specs.Bytes.{byte, part, paddedText, zerosOf, textAt, within}
 use Rattle.paper.specs.Form.{Rec, _=<_}
 use Rattle.paper.specs.Table.{isText, isBlank}
 use Rattle.paper.proofs.Forms.{cases}
-use Rattle.laws.proofs.Bytes.{split, list-same, byte-part, length-part, all-at}
+use Rattle.laws.proofs.Bytes.{byte-zerosOf, split, list-same, byte-part, length-part, all-at}
 
 pub length-padded : (n : ℕ) (v : List ℕ) → length v ≤ n → length (paddedText n v) ≡ suc n
 length-padded n v h =
@@ -30,16 +30,11 @@ pub padded-byte : (n : ℕ) (v : List ℕ) (j : ℕ) → j < length v → byte (
 unfolding byte
 padded-byte n v j h = List·getD-append v (zerosOf (n - length v)) 0 j h
 
-zero-at : (m i : ℕ) → _≡_ {A = ℕ} (getD (replicate m 0) i 0) 0
-zero-at zero i = refl
-zero-at (suc m) zero = refl
-zero-at (suc m) (suc i) = zero-at m i
-
 pub padded-zero : (n : ℕ) (v : List ℕ) (j : ℕ) → length v ≤ j → byte (suc j) (paddedText n v) ≡ 0
 unfolding byte
 padded-zero n v j h =
     let e : length v + (j - length v) ≡ j = omega arith in
-    rw (← e) (getD-append-add v (zerosOf (n - length v)) (j - length v) 0 ∙ zero-at (n - length v) (j - length v))
+    rw (← e) (getD-append-add v (zerosOf (n - length v)) (j - length v) 0 ∙ byte-zerosOf (n - length v) (j - length v))
 
 -- where a padded string stands, the string is read back
 module _ (i n : ℕ) (r : Rec) (v : List ℕ) (e : part i (suc n) r ≡ paddedText n v) (h : length v ≤ n) (small : n < 256) where

@@ -4,8 +4,8 @@ use mathlib.Core.Bool.{Bool, true, false, cond}
 use mathlib.Core.List.{List, [], _∷_}
 use Prim.Native.Nat.{ℕ, zero, suc}
 use native.Mathlib.Omega.{arith}
-use Rattle.paper.specs.Form.{test, Fault, _gives_, settle}
-use Rattle.paper.proofs.Forms.{contrary}
+use Rattle.paper.specs.Form.{test, Fact, Fault, _gives_, settle}
+use Rattle.paper.proofs.Forms.{both, contrary, Clear}
 use Rattle.method_acts.specs.Rungs.{status, orElse, climb, proper}
 
 -- one rung
@@ -61,3 +61,22 @@ module _ {A : Type 0} (fs : List Fault) (refused : ℕ → A) (done : A) (e : pr
       go : (n : ℕ) → (n ≡ 0 → ⊥) → onStatus n refused done ≡ refused n
       go zero h = absurd (h refl)
       go (suc n) h = refl
+
+-- the same by a status that the code has told
+module _ {A : Type 0} (fs : List Fault) (refused : ℕ → A) (done : A) (e : proper fs ≡ true) {n : ℕ} (told : n ≡ status fs) where
+  pub told-not : (n ≡ 0 → ⊥) → settle fs refused done ≡ refused n
+  told-not h = settle-not fs refused done e (λ z. h (told ∙ z)) ∙ rw told
+
+  pub told-done : n ≡ 0 → settle fs refused done ≡ done
+  told-done z = settle-done fs refused done e (sym told ∙ z)
+
+-- status 0 tells that no refusal of the list applies
+pub cleared : (fs : List Fault) → proper fs ≡ true → status fs ≡ 0 → Clear fs
+unfolding status
+cleared [] e z = tt
+cleared ((φ gives zero) ∷ fs) e z = contrary (sym e)
+cleared ((φ gives suc n) ∷ fs) e z = go (test φ) refl z (λ w. cleared fs e w)
+  where
+    go : (b : Bool) → test φ ≡ b → cond b (suc n) (settle fs (λ m. m) 0) ≡ 0 → (settle fs (λ m. m) 0 ≡ 0 → Clear fs) → (Fact φ → ⊥) × Clear fs
+    go true t z k = absurd (omega arith)
+    go false t z k = ((λ p. contrary (sym (both φ .1 p) ∙ t)), k z)

@@ -1,5 +1,5 @@
 -- A session's own record moved on, and what the paper's outcome is where there is a free place and where there is none.
-use mathlib.Core.Path.{_≡_, refl, sym}
+use mathlib.Core.Path.{_≡_, refl}
 use mathlib.Core.Bool.{Bool, true, false, cond, _&&_}
 use mathlib.Core.List.{List, [], _∷_, map}
 use mathlib.Core.Option.{none, some as just}
@@ -8,10 +8,9 @@ use native.Mathlib.Numerals.{add-one}
 use lib.Dec.{eqb}
 use lib.ListN.{set}
 use Rattle.paper.specs.Bytes.{enc2, over}
-use Rattle.paper.specs.Form.{Rec, test, only, seek}
-use Rattle.paper.specs.Records.{kind, own, session, records, SESSION, is, bears, at, block, room, insert}
+use Rattle.paper.specs.Form.{Rec, test, only}
+use Rattle.paper.specs.Records.{kind, own, session, records, SESSION, is, bears, room, insert}
 use Rattle.paper.specs.Act.{perform, inside, refuse, advance, moved}
-use Rattle.laws.proofs.Lists.{at-block}
 use Rattle.store_records.specs.View.{Becomes}
 use Rattle.store_records.proofs.Views.{after}
 use Rattle.method_acts.specs.Answers.{Answers}
@@ -20,11 +19,6 @@ use Rattle.method_acts.specs.Answers.{Answers}
 pub over-two : (k n : ℕ) (r : Rec) → set (set r k (n / 256 % 256)) (k + 1) (n % 256) ≡ over k (enc2 n) r
 unfolding over
 over-two k n r = rw (add-one k)
-
--- a look-up among the session's own records is one among all
-pub own-at : (k o s : ℕ) (rs : List Rec) → seek (is k o s) rs ≡ at k o s (block s rs)
-unfolding at
-own-at k o s rs = sym (at-block k o s rs)
 
 -- a session's record bears its handle, so that the edit of the session's own records is the edit of all
 within-own : (a b c : Bool) (x y : Rec) → cond c (cond (a && (b && c)) y x) x ≡ cond (a && (b && c)) y x

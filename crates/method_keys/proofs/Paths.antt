@@ -10,18 +10,16 @@ use lib.ListN.{length, getD, set, take}
 use lib.Seq.{sets, take-suc, length-take-le}
 use native.Mathlib.Omega.{arith}
 use Rattle.sha256.specs.Sha256.{SHA256}
-use Rattle.paper.specs.Form.{Rec, Form, test, only}
-use Rattle.paper.specs.Records.{kind, own, session, SESSION, KEY, is, bears, block}
+use Rattle.paper.specs.Form.{Rec, Form, test, only, Fault}
+use Rattle.paper.specs.Records.{SessionValue, records, kind, own, session, SESSION, KEY, is, at, bears, block}
 use Rattle.paper.specs.Calls.{subject, pathIn}
 use Rattle.paper.specs.Act.{Act, refuse, advance, moved, perform, plain}
-use Rattle.paper.specs.Objects.{certified, setPath, setPathBy}
+use Rattle.paper.specs.Objects.{pathFaults, certified, setPathBy}
 use Rattle.store_records.specs.View.{Becomes}
 use Rattle.store_records.proofs.Views.{after}
-use Rattle.paper.specs.Records.{records}
 use Rattle.method_acts.specs.Rungs.{status}
 use Rattle.method_acts.proofs.Climbs.{settle-done, settle-not}
 use Rattle.method_acts.specs.Answers.{Answers, bareReply}
-use Rattle.method_keys.specs.PathLadder.{pathLadder}
 
 -- one byte more is written over
 sets-next : (r xs : List ℕ) (k v : ℕ) → sets r k (xs ++ (v ∷ [])) ≡ set (sets r k xs) (k + length xs) v
@@ -67,23 +65,28 @@ module _ (s k : ℕ) (f g : Rec → Rec) where
   map-both [] = refl
   map-both (x ∷ rs) = rw (both-own x, map-both rs)
 
-module _ (c chip : List ℕ) (rs : List Rec) where
-  pub path-not : (status (pathLadder c chip rs) ≡ 0 → ⊥) → setPath c chip (block (subject c) rs) ≡ refuse (status (pathLadder c chip rs))
-  unfolding setPathBy
-  path-not h = settle-not (pathLadder c chip rs) refuse _ refl h
+-- The refusals, at the key that the call names.
+abbrev pub pathLadder : SessionValue → List ℕ → List ℕ → List Rec → List Fault
+pathLadder x c chip rs = pathFaults c chip (pathIn c) (at KEY (pathIn c .key) (subject c) (block (subject c) rs)) x
 
-  path-done : status (pathLadder c chip rs) ≡ 0
-      → perform (subject c) (setPath c chip (block (subject c) rs)) rs
+module _ (x : SessionValue) (c chip : List ℕ) where
+  pub path-not : (rs : List Rec) → (status (pathLadder x c chip rs) ≡ 0 → ⊥)
+      → setPathBy x c chip (block (subject c) rs) ≡ refuse (status (pathLadder x c chip rs))
+  unfolding setPathBy
+  path-not rs h = settle-not (pathLadder x c chip rs) refuse _ refl h
+
+  path-done : (rs : List Rec) → status (pathLadder x c chip rs) ≡ 0
+      → perform (subject c) (setPathBy x c chip (block (subject c) rs)) rs
       ≡ plain 0 (map (only (is KEY (pathIn c .key) (subject c)) (certified (SHA256 (pathIn c .first)))) (map (advance (subject c) 0 1) rs))
   unfolding setPathBy perform advance
-  path-done z =
-      ap (λ (a : Act). perform (subject c) a rs) (settle-done (pathLadder c chip rs) refuse _ refl z)
+  path-done rs z =
+      ap (λ (a : Act). perform (subject c) a rs) (settle-done (pathLadder x c chip rs) refuse _ refl z)
       ∙ ap (plain 0) (map-both (subject c) (pathIn c .key) (moved 0 1) (certified (SHA256 (pathIn c .first))) rs)
 
--- the counter moved on, and then the key certified
-pub path-by : (c chip : List ℕ) {s u v : List ℕ} → status (pathLadder c chip (records s)) ≡ 0
-    → Becomes (map (advance (subject c) 0 1) (records s)) s u
-    → Becomes (map (only (is KEY (pathIn c .key) (subject c)) (certified (SHA256 (pathIn c .first)))) (records u)) u v
-    → Answers (perform (subject c) (setPath c chip (block (subject c) (records s))) (records s)) (bareReply 0) s v
-path-by c chip {s} {u} {v} z w x =
-    rw (path-done c chip (records s) z) (record { reply = refl; store = rw (w .view) at (after w x) })
+  -- the counter moved on, and then the key certified
+  pub path-by : {s u v : List ℕ} → status (pathLadder x c chip (records s)) ≡ 0
+      → Becomes (map (advance (subject c) 0 1) (records s)) s u
+      → Becomes (map (only (is KEY (pathIn c .key) (subject c)) (certified (SHA256 (pathIn c .first)))) (records u)) u v
+      → Answers (perform (subject c) (setPathBy x c chip (block (subject c) (records s))) (records s)) (bareReply 0) s v
+  path-by {s} {u} {v} z w y =
+      rw (path-done (records s) z) (record { reply = refl; store = rw (w .view) at (after w y) })

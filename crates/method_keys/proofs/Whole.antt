@@ -1,43 +1,32 @@
 -- Where no policy lets a PIN of more than 16 bytes by, as in a sound store, a new key's record has 256 bytes and nothing is cut.
 use mathlib.Core.Path.{_≡_, refl, sym, _∙_}
-use mathlib.Core.Bool.{Bool, true, false, cond, _&&_}
-use mathlib.Core.List.{List, [], _∷_}
+use mathlib.Core.Bool.{Bool, true, false, _&&_}
+use mathlib.Core.List.{List, []}
 use Prim.Native.Nat.{ℕ, zero, suc, _≤_}
 use native.Mathlib.Omega.{arith}
 use borrow.Author.Tests.{eq-eqb, leb-true}
 use lib.Dec.{leb}
 use lib.ListN.{length, length-append, length-replicate}
-use Rattle.paper.specs.Bytes.{byte, within}
-use Rattle.paper.specs.Form.{Rec, _==_, test, Fact, some, Fault, _gives_, settle}
+use Rattle.paper.specs.Limits.{longestId, longestPublicKey}
+use Rattle.paper.specs.Bytes.{byte, two, within}
+use Rattle.paper.specs.Form.{Rec, _==_, test, Fact, some, Fault}
 use Rattle.paper.specs.Records.{SessionValue, POLICY, is, at, block, maxLength}
 use Rattle.paper.specs.Table.{obeysTable}
 use Rattle.paper.specs.Sound.{Sound}
 use Rattle.paper.specs.Text.{pinFits, formatFits, patternFits}
 use Rattle.paper.specs.Calls.{subject, Key, keyIn, keyForm}
 use Rattle.paper.specs.Act.{refuse}
-use Rattle.paper.specs.Objects.{pinOf, breaksRule, keyRecord, makeKey, makeKeyBy}
-use Rattle.paper.proofs.Forms.{both, cases, contrary, Clear}
+use Rattle.paper.specs.Objects.{pinOf, breaksRule, keyRecord, makeKeyBy}
+use Rattle.paper.proofs.Forms.{both, cases, contrary}
 use Rattle.laws.proofs.Bytes.{split}
 use Rattle.laws.proofs.Fields.{tabled-field}
 use Rattle.laws.proofs.Lists.{at-block, at-found, at-none}
 use Rattle.store_draft.proofs.Laying.{laid-whole}
-use Rattle.method_acts.specs.Rungs.{status, proper}
-use Rattle.method_acts.proofs.Climbs.{settle-done, settle-not}
-use Rattle.method_acts.specs.Names.{itself}
-use Rattle.method_acts.proofs.Halves.{string-short}
-use Rattle.method_keys.specs.KeyLadder.{itsPolicy, keyLadder, cut}
-use Rattle.method_keys.proofs.Makes.{key-not, key-done}
-
--- status 0 tells that no refusal of the list applies
-pub cleared : (fs : List Fault) → proper fs ≡ true → status fs ≡ 0 → Clear fs
-unfolding status
-cleared [] e z = tt
-cleared ((φ gives zero) ∷ fs) e z = contrary (sym e)
-cleared ((φ gives suc n) ∷ fs) e z = go (test φ) refl z (λ w. cleared fs e w)
-  where
-    go : (b : Bool) → test φ ≡ b → cond b (suc n) (settle fs (λ m. m) 0) ≡ 0 → (settle fs (λ m. m) 0 ≡ 0 → Clear fs) → (Fact φ → ⊥) × Clear fs
-    go true t z k = absurd (omega arith)
-    go false t z k = ((λ p. contrary (sym (both φ .1 p) ∙ t)), k z)
+use Rattle.method_acts.specs.Rungs.{status}
+use Rattle.method_acts.proofs.Climbs.{cleared, settle-done, settle-not}
+use Rattle.laws.proofs.CallStrings.{string-short}
+use Rattle.method_keys.specs.Keys.{cut}
+use Rattle.method_keys.proofs.Makes.{itsPolicy, itsPin, keyLadder, key-not, key-done}
 
 -- a PIN that meets its policy is no longer than the policy says
 fits-long : (pol : Rec) (v : List ℕ) → pinFits pol v ≡ true → length v ≤ maxLength pol
@@ -56,37 +45,40 @@ module _ (q : Key) (pol : Rec) (short : maxLength pol ≤ 16) (ruled : Fact (bre
       go n false e = absurd (ruled (n, λ t. contrary (sym t ∙ e)))
 
 -- so its record is whole
-key-whole : (c chip : List ℕ) (s : ℕ) (pol : Rec) (ses : SessionValue) → test (keyForm c chip) ≡ true → length (pinOf (keyIn c chip) pol) ≤ 16
-    → length (keyRecord s (keyIn c chip) (pinOf (keyIn c chip) pol) ses) ≡ 256
+key-whole : (c chip : List ℕ) (s : ℕ) (v : List ℕ) (x : SessionValue) → test (keyForm c chip) ≡ true → length v ≤ 16
+    → length (keyRecord s (keyIn c chip) v x) ≡ 256
 unfolding keyRecord
-key-whole c chip s pol ses e h =
+key-whole c chip s v x e h =
     let f = both (keyForm c chip) .0 e in
-    let a = f .0 .0 .1 in
-    let b = f .1 .1 .1 .1 .1 .1 .1 .0 .1 in
+    let named : two 5 c ≤ longestId = search in
+    let keyed : two 0 chip ≤ longestPublicKey = search in
     let l = string-short 5 c in
     let m = string-short 0 chip in
     simp (length-append, length-replicate) (omega arith)
 
-pub uncut : (c chip : List ℕ) (rs : List Rec) → maxLength (itsPolicy c chip rs) ≤ 16
-    → cut (makeKey c chip (block (subject c) rs)) ≡ makeKey c chip (block (subject c) rs)
+pub uncut : (x : SessionValue) (c chip : List ℕ) (rs : List Rec) → maxLength (itsPolicy c chip rs) ≤ 16
+    → cut (makeKeyBy x c chip (block (subject c) rs)) ≡ makeKeyBy x c chip (block (subject c) rs)
 unfolding makeKeyBy
-uncut c chip rs short = go (status (keyLadder c chip rs)) refl
+uncut x c chip rs short = go (status fs) refl
   where
-    whole : status (keyLadder c chip rs) ≡ 0 → length (keyRecord (subject c) (keyIn c chip) (pinOf (keyIn c chip) (itsPolicy c chip rs)) (itself c rs)) ≡ 256
+    fs : List Fault
+    fs = keyLadder x c chip rs
+
+    whole : status fs ≡ 0 → length (keyRecord (subject c) (keyIn c chip) (itsPin c chip rs) x) ≡ 256
     whole z =
-        let w = cleared (keyLadder c chip rs) refl z in
-        key-whole c chip (subject c) (itsPolicy c chip rs) (itself c rs)
+        let w = cleared fs refl z in
+        key-whole c chip (subject c) (itsPin c chip rs) x
         (cases (keyForm c chip) (λ p. both (keyForm c chip) .1 p) (λ n. absurd (w .0 n)))
         (pin-short (keyIn c chip) (itsPolicy c chip rs) short (search))
 
-    go : (n : ℕ) → status (keyLadder c chip rs) ≡ n → cut (makeKey c chip (block (subject c) rs)) ≡ makeKey c chip (block (subject c) rs)
+    go : (n : ℕ) → status fs ≡ n → cut (makeKeyBy x c chip (block (subject c) rs)) ≡ makeKeyBy x c chip (block (subject c) rs)
     go zero z =
-        key-done c chip rs z
-        ∙ rw (laid-whole (keyRecord (subject c) (keyIn c chip) (pinOf (keyIn c chip) (itsPolicy c chip rs)) (itself c rs)) (whole z))
-        (sym (settle-done (keyLadder c chip rs) refuse _ refl z))
+        key-done x c chip rs z
+        ∙ rw (laid-whole (keyRecord (subject c) (keyIn c chip) (itsPin c chip rs) x) (whole z))
+        (sym (settle-done fs refuse _ refl z))
     go (suc n) z =
-        let h : status (keyLadder c chip rs) ≡ 0 → ⊥ = λ y. (let w : suc n ≡ 0 = sym z ∙ y in omega arith) in
-        key-not c chip rs h ∙ sym (settle-not (keyLadder c chip rs) refuse _ refl h)
+        let h : status fs ≡ 0 → ⊥ = λ y. (let w : suc n ≡ 0 = sym z ∙ y in omega arith) in
+        key-not x c chip rs h ∙ sym (settle-not fs refuse _ refl h)
 
 -- and a sound store has no other policies
 tabled-longest : (r : Rec) → byte 0 r ≡ POLICY → obeysTable r ≡ true → maxLength r ≤ 16

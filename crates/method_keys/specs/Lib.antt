@@ -1,2 +1,1 @@
-pub mod KeyLadder
-pub mod PathLadder
+pub mod Keys

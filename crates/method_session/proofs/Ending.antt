@@ -7,7 +7,7 @@ use Prim.Native.Nat.{ℕ}
 use lib.Dec.{eqb}
 use borrow.Author.Tests.{ne-eqb}
 use Rattle.paper.specs.Form.{Rec, _==_, _and_, test, some, exists, only}
-use Rattle.paper.specs.Records.{byValue, records, kind, SESSION, PUK, POLICY, KEY, own, session, parent, at, block, bears, zeros}
+use Rattle.paper.specs.Records.{SessionValue, records, kind, PUK, POLICY, KEY, own, session, parent, block, bears, zeros}
 use Rattle.paper.specs.Sound.{child, childless}
 use Rattle.paper.specs.Calls.{subject, closeIn, abortForm}
 use Rattle.paper.specs.Mac.{attestation, closeAttested}
@@ -18,12 +18,11 @@ use Rattle.paper.specs.Sessions.{abortFaults, abortSession, closeBy}
 use Rattle.store_records.specs.View.{Becomes}
 use Rattle.store_records.specs.Choices.{chosen}
 use Rattle.store_records.specs.declared.Choice.the-variants.{Child}
-use Rattle.method_acts.specs.Names.{itself}
 use Rattle.method_acts.proofs.Blocks.{some-block}
 use Rattle.method_acts.specs.Rungs.{status, orElse, climb}
 use Rattle.method_acts.specs.declared.Reply.{Reply}
 use Rattle.method_acts.specs.Answers.{Answers, bareReply}
-use Rattle.method_acts.proofs.Climbs.{settle-done, settle-not}
+use Rattle.method_acts.proofs.Climbs.{told-not, told-done}
 use Rattle.method_session.specs.Ends.{faults3, ended, aborted}
 
 again : (a b c : Bool) → (c && (a && (b && c))) ≡ (a && (b && c))
@@ -57,25 +56,20 @@ module _ (t : ℕ) (rs : List Rec) (y : Rec) (e : session y ≡ t) where
   pub childless-other : (kind y ≡ PUK → ⊥) → (kind y ≡ POLICY → ⊥) → false ≡ test (childless (block t rs) y)
   childless-other p q = sym (childless-at t rs y e ∙ rw (ne-eqb (kind y) PUK p, ne-eqb (kind y) POLICY q))
 
-module _ (c chip : List ℕ) (rs : List Rec) {n : ℕ} (told : n ≡ status (faults3 c chip rs)) where
-  pub ended-not : (n ≡ 0 → ⊥) → ended c chip rs ≡ perform (subject c) (refuse n) rs
+module _ (x : SessionValue) (c chip : List ℕ) (rs : List Rec) {n : ℕ} (told : n ≡ status (faults3 x c chip rs)) where
+  pub ended-not : (n ≡ 0 → ⊥) → ended x c chip rs ≡ perform (subject c) (refuse n) rs
   unfolding closeBy
-  ended-not h = rw (settle-not (faults3 c chip rs) refuse (act.close (attestation (itself c rs) (closeAttested (closeIn c)))) refl (λ z. h (told ∙ z)), told)
+  ended-not h = rw (told-not (faults3 x c chip rs) refuse (act.close (attestation x (closeAttested (closeIn c)))) refl told h)
 
   pub ended-done : n ≡ 0
-      → ended c chip rs ≡ record {
-        status = 0;
-        handle = 0;
-        attestation = attestation (itself c rs) (closeAttested (closeIn c));
-        store = map (closing (subject c) rs) rs;
-      }
+      → ended x c chip rs ≡ record { status = 0; handle = 0; attestation = attestation x (closeAttested (closeIn c)); store = map (closing (subject c) rs) rs }
   unfolding closeBy perform
-  ended-done z = rw (settle-done (faults3 c chip rs) refuse (act.close (attestation (itself c rs) (closeAttested (closeIn c)))) refl (sym told ∙ z))
+  ended-done z = rw (told-done (faults3 x c chip rs) refuse (act.close (attestation x (closeAttested (closeIn c)))) refl told z)
 
-pub closed : (c chip : List ℕ) {s u : List ℕ} {n : ℕ} (t : ℕ) (x : Rec) (a : List ℕ) → n ≡ status (faults3 c chip (records s)) → n ≡ 0 → t ≡ subject c
-    → x ≡ at SESSION t t (block t (records s)) → a ≡ attestation (byValue x) (closeAttested (closeIn c)) → Becomes (map (closing t (records s)) (records s)) s u
-    → Answers (ended c chip (records s)) (record { status = 0; handle = 0; attestation = a }) s u
-closed c chip {s} t x a e z f g h b = rw (ended-done c chip (records s) e z, ← f, ← g, ← h) (record { reply = refl; store = b })
+pub closed : (x : SessionValue) (c chip : List ℕ) {s u : List ℕ} {n : ℕ} (t : ℕ) (a : List ℕ) → n ≡ status (faults3 x c chip (records s)) → n ≡ 0 → t ≡ subject c
+    → a ≡ attestation x (closeAttested (closeIn c)) → Becomes (map (closing t (records s)) (records s)) s u
+    → Answers (ended x c chip (records s)) (record { status = 0; handle = 0; attestation = a }) s u
+closed x c chip {s} t a e z f h b = rw (ended-done x c chip (records s) e z, ← f, ← h) (record { reply = refl; store = b })
 
 aborted-is : (c chip : List ℕ) (rs : List Rec) → aborted c chip rs ≡ wiped (subject c) (climb 0 (abortFaults c chip)) rs
 unfolding abortSession perform orElse

@@ -1,17 +1,17 @@
 -- What status 0 of method 2 tells of the call: the number fits and the record has 256 bytes. And the paper's outcome by the status.
-use mathlib.Core.Path.{_≡_, refl, sym, subst, _∙_}
-use mathlib.Core.Bool.{Bool, true, false, cond}
-use mathlib.Core.List.{List, [], _∷_, map}
-use Prim.Native.Nat.{ℕ, zero, suc, _≤_}
+use mathlib.Core.Path.{_≡_, refl, subst, _∙_}
+use mathlib.Core.List.{List, map}
+use Prim.Native.Nat.{ℕ, _+_, _≤_}
 use native.Mathlib.Omega.{arith}
 use lib.ListN.{length, length-append, length-replicate}
-use Rattle.paper.specs.Bytes.{part}
-use Rattle.paper.specs.Form.{Rec, _=<_, no, test, Fact, Fault, _gives_}
+use Rattle.paper.specs.Limits.{longestId, keyBytes}
+use Rattle.paper.specs.Bytes.{two, behind, part}
+use Rattle.paper.specs.Form.{Rec, _=<_, Fact}
 use Rattle.paper.specs.Records.{records, handle, nextSession, insert}
 use Rattle.paper.specs.Calls.{createIn, createForm, serverAt, timesAt}
 use Rattle.paper.specs.Act.{plain, noAttestation}
 use Rattle.paper.specs.Sessions.{counter, sessionRecord, counted, createSession}
-use Rattle.paper.proofs.Forms.{contrary, both, Clear, Agree}
+use Rattle.paper.proofs.Forms.{Clear}
 use Rattle.laws.proofs.Bytes.{length-part}
 use Rattle.laws.proofs.Choice.{holds}
 use Rattle.laws.proofs.CallStrings.{behind-is, string-short}
@@ -20,31 +20,20 @@ use Rattle.store_records.proofs.Views.{after}
 use Rattle.store_edits.proofs.Puts.{unchanged}
 use Rattle.store_draft.specs.Drafts.{laid}
 use Rattle.store_draft.proofs.Laying.{laid-whole}
-use Rattle.method_acts.specs.Rungs.{status, proper}
+use Rattle.method_acts.specs.Rungs.{status}
 use Rattle.method_acts.specs.Answers.{Answers, bareReply}
-use Rattle.method_acts.proofs.Climbs.{settle-done, settle-not}
+use Rattle.method_acts.proofs.Climbs.{cleared, settle-done, settle-not}
 use Rattle.method_session.specs.Births.{faults2}
-
--- where the status is 0 no refusal applies
-clear-of : (fs : List Fault) → proper fs ≡ true → status fs ≡ 0 → Clear fs
-unfolding status
-clear-of [] e z = tt
-clear-of ((φ gives zero) ∷ fs) e z = contrary (sym e)
-clear-of ((φ gives suc n) ∷ fs) e z = go (test φ) (both φ) (clear-of fs e) z
-  where
-    go : (b : Bool) → Agree b (Fact φ) → (status fs ≡ 0 → Clear fs) → cond b (suc n) (status fs) ≡ 0 → (Fact φ → ⊥) × Clear fs
-    go true a h z = absurd (omega arith)
-    go false a h z = ((λ p. contrary (sym (a .1 p))), h z)
 
 module _ (c chip : List ℕ) where
   -- the record of a call that has its form is whole
   record-whole : (h : ℕ) → Fact (createForm c chip) → length (sessionRecord h (createIn c chip)) ≡ 256
   unfolding sessionRecord
   record-whole h f =
-      let server = f .1 .0 .0 .1 in
-      let timed = f .1 .1 .1 .1 .1 .0 in
-      let client = f .1 .1 .1 .1 .1 .1 .0 .0 .1 in
-      let chipped = f .1 .1 .1 .1 .1 .1 .1 in
+      let server : two (serverAt c) c ≤ longestId = search in
+      let timed : timesAt c + 10 ≡ length c = search in
+      let client : two keyBytes chip ≤ longestId = search in
+      let chipped : behind keyBytes chip ≡ length chip = search in
       let a = string-short (serverAt c) c in
       let b = string-short 32 chip in
       let d = behind-is 32 chip in
@@ -55,13 +44,17 @@ module _ (c chip : List ℕ) where
   module _ (rs : List Rec) where
     module _ (z : status (faults2 c chip rs) ≡ 0) where
       free : Clear (faults2 c chip rs)
-      free = clear-of (faults2 c chip rs) refl z
+      free = cleared (faults2 c chip rs) refl z
 
       pub number-fits : nextSession (counter rs) ≤ 65535
-      number-fits = holds (nextSession (counter rs) =< 65535) (free .1 .1 .1 .1 .0)
+      number-fits =
+          let w = free in
+          holds (nextSession (counter rs) =< 65535) (search)
 
       pub laid-session : (h : ℕ) → laid (sessionRecord h (createIn c chip)) ≡ sessionRecord h (createIn c chip)
-      laid-session h = laid-whole (sessionRecord h (createIn c chip)) (record-whole h (holds (createForm c chip) (free .0)))
+      laid-session h =
+          let w = free in
+          laid-whole (sessionRecord h (createIn c chip)) (record-whole h (holds (createForm c chip) (search)))
 
       pub create-done : createSession c chip rs ≡ record {
         status = 0;

@@ -1,3 +1,2 @@
 pub mod Faults
-pub mod Tries
-pub mod Doing
+pub mod Steps

@@ -1,59 +1,115 @@
-// Methods 80, 82, 83 and 100: the user deletes, unlocks, changes or uses a key of a closed session. The refusals come first and change
-// nothing; then the value is tried, which moves a count at most; then what a right value earns is done.
+// Methods 80, 82, 83 and 100: the user deletes, unlocks, changes or uses a key of a closed session. What a call comes to is found by
+// reading alone: the key, its session, its policy and its PUK are each looked up once; the refusals come first, and then the value is
+// tried. That is a status and a deed, and the deed is done to the store.
 // A store of more than 256 records answers 19 and stays, so that no promise has a premise.
 use call_form::is_change;
 use call_form::is_typed;
+use call_reader::string_in;
+use effect_deeds::Pinned;
 use effect_deeds::carry;
 use effect_deeds::change_pin;
 use effect_plan::Keys;
 use method_acts::both;
 use method_acts::either;
 use method_acts::fault;
+use method_acts::is_missing;
+use paper::BEHIND_SUBJECT;
+use paper::BREAKS_RULE;
+use paper::BY_PIN;
+use paper::CLOSED;
+use paper::DELETE_PROTECTION;
+use paper::DONE;
+use paper::GROUPING;
+use paper::HOME;
+use paper::KEY;
+use paper::KEY_ERRORS;
+use paper::MOST_RECORDS;
+use paper::NEVER;
+use paper::NO_FORM;
+use paper::NO_KEY;
+use paper::NO_PARENT;
+use paper::OWN;
+use paper::PARENT;
+use paper::POLICY;
+use paper::PUK;
+use paper::PUK_ERRORS;
+use paper::RECORD_BYTES;
+use paper::RETRY_LIMIT;
+use paper::SHARED;
+use paper::STATE;
+use paper::SUBJECT;
+use paper::UNSOUND;
+use paper::USER_MODIFIABLE;
+use paper::VALUE;
+use paper::WRONG;
 use store_edits::Edit;
-use store_edits::add_count;
 use store_edits::clear_count;
 use store_records::Choice;
 use store_records::byte_at;
 use store_records::four_at;
-use store_records::is_target;
+use store_records::home;
+use store_records::is_kind;
 use store_records::policy_of;
 use store_records::puk_of;
-use store_records::string_at;
 use store_records::target;
 use store_records::text_at;
 ghost use mathlib.Core.Path.{_≡_};
+ghost use mathlib.Core.Bool.{not, _&&_};
+ghost use mathlib.Core.List.{List, map};
+ghost use Prim.Native.Nat.{ℕ};
+ghost use lib.Dec.{eqb};
 ghost use lib.ListN.{length};
-ghost use Rattle.paper.specs.Form.{test, _==_, no};
+ghost use Rattle.paper.specs.Form.{Rec, test, _==_, no};
 ghost use Rattle.paper.specs.Records.{records};
 ghost use Rattle.paper.specs.Calls.{typed as typedIn, typedNew};
-ghost use Rattle.paper.specs.Objects.{notThere};
-ghost use Rattle.method_acts.specs.Rungs.{status};
-ghost use Rattle.method_users.specs.Faults.{faults80, faults82, faults83, faults100, withoutPuk};
-ghost use mathlib.Core.Bool.{not, _&&_};
-ghost use lib.Dec.{eqb};
-ghost use Rattle.paper.specs.Pin.{verdict, pinCheck, pukCheck};
+ghost use Rattle.paper.specs.Pin.{verdict, pinCheck, pukCheck, pinMissed, pukMissed};
+ghost use Rattle.paper.specs.Users.{tried, deleteFaults, unlockFaults, changeFaults, useFaults, deleteKey, unlockKey, changePin, useKey};
 ghost use Rattle.store_records.specs.View.{Becomes};
-ghost use Rattle.method_users.specs.Tries.{verdictOf, Tried, pukFor, pinTry, pukTry, pinUp, pukUp, pinDown, pukDown};
-ghost use Prim.Native.Nat.{_/_, _≤_};
-ghost use Rattle.paper.specs.Users.{removed, unlocked, deleteKey, unlockKey, changePin, useKey};
+ghost use Rattle.effect_deeds.specs.Outcome.{pinnedBy};
+ghost use Rattle.method_acts.specs.Rungs.{status};
 ghost use Rattle.method_acts.specs.Answers.{Answers, bareReply};
-ghost use Rattle.method_users.specs.Doing.{byPin, byPuk, cleared, deleting, repinned, opening};
 ghost use Rattle.method_acts.specs.Range.{inRange};
+ghost use Rattle.method_users.specs.Faults.{Seen, reached, withoutPuk};
+ghost use Rattle.method_users.specs.Steps.{caseOf, stepBy, lostWithPuk, doneBy, outOf};
 
-// ---- what refuses a call, found by reading alone: the status of the first refusal of the paper's list that applies, or 0
-
-// What is typed, and the new PIN behind it.
-pub fn typed<'a>(c: &'a [u8]) -> &'a [u8]
-    ensures { λ r. ⌜ now r ≡ typedIn (now (c .entry)) ⌝ }
-{
-    string_at(c, 5)
+// What a typed value comes to.
+enum Verdict {
+    Locked,
+    Wrong,
+    Right,
 }
 
-pub fn new_pin<'a>(c: &'a [u8]) -> &'a [u8]
+// What is done to the store: nothing; a count is moved; a key is removed, or removed after its PUK's count became 0 (the key's handle,
+// the PUK's and its session); a key is unlocked; a key gets the call's new PIN.
+enum Deed {
+    Nothing,
+    Count(Choice, Edit),
+    Remove(u32),
+    Clear(u32, u32, u32),
+    Unlock(u32),
+    Repin(Pinned),
+}
+
+// What a call comes to.
+struct Step {
+    status: u8,
+    deed: Deed,
+}
+
+// ---- what refuses a call: the status of the first refusal of the paper's list that applies, or 0
+
+// What is typed, and the new PIN behind it.
+fn typed<'a>(c: &'a [u8]) -> &'a [u8]
+    ensures { λ r. ⌜ now r ≡ typedIn (now (c .entry)) ⌝ }
+{
+    string_in(c, BEHIND_SUBJECT)
+}
+
+fn new_pin<'a>(c: &'a [u8]) -> &'a [u8]
     ensures { λ r. ⌜ now r ≡ typedNew (now (c .entry)) ⌝ }
 {
     let q = call_fields::typed_fields(c);
-    string_at(c, q.second)
+    string_in(c, q.second)
 }
 
 fn is_given(c: &[u8]) -> bool
@@ -63,26 +119,22 @@ fn is_given(c: &[u8]) -> bool
     v.len() != 0
 }
 
-// A nonzero handle under which no record of the kind was found.
-fn is_missing(kind: u8, found: &[u8], handle: u32) -> bool
-    ensures { λ r. ⌜ r ≡ test (notThere kind (now (found .entry)) handle) ⌝ }
+// A key of a closed session.
+fn is_reached(x: &[u8], h: &[u8]) -> bool
+    ensures { λ r. ⌜ r ≡ test (reached (now (x .entry)) (now (h .entry))) ⌝ }
 {
-    if handle == 0 {
-        return false;
-    }
-    byte_at(found, 0) != kind
+    both(is_kind(x, KEY), byte_at(h, STATE) == CLOSED)
 }
 
 // 80
-pub fn delete_status(store: &[u8], c: &[u8], chip: &[u8]) -> u8
-    ensures { λ r. ⌜ r ≡ status (faults80 (now (c .entry)) (now (chip .entry)) (records (now (store .entry)))) ⌝ }
+fn delete_status(x: &[u8], h: &[u8], c: &[u8], chip: &[u8]) -> u8
+    ensures { λ r. ⌜ ((rs : List Rec) → Seen (now (c .entry)) rs (now (x .entry)) (now (h .entry)) → r ≡ status (deleteFaults (now (c .entry)) (now (chip .entry)) (now (x .entry)) rs)) ⌝ }
 {
-    let k = four_at(c, 1);
-    let p = byte_at(target(store, k), 3);
-    let n1 = fault(0, !is_typed(c, chip), 16);
-    let n2 = fault(n1, !is_target(store, k), 7);
-    let n3 = fault(n2, p == 3, 17);
-    fault(n3, both(p == 0, is_given(c)), 1)
+    let p = byte_at(x, DELETE_PROTECTION);
+    let n1 = fault(DONE, !is_typed(c, chip), NO_FORM);
+    let n2 = fault(n1, !is_reached(x, h), NO_KEY);
+    let n3 = fault(n2, p == NEVER, BREAKS_RULE);
+    fault(n3, both(p == 0, is_given(c)), WRONG)
 }
 
 // 82
@@ -90,64 +142,48 @@ fn is_without_puk(x: &[u8], pol: &[u8]) -> bool
     ensures { λ r. ⌜ r ≡ test (withoutPuk (now (x .entry)) (now (pol .entry))) ⌝ }
 {
     either(
-        four_at(x, 12) == 0,
-        both(byte_at(pol, 0) == 3, four_at(pol, 12) == 0),
+        four_at(x, PARENT) == 0,
+        both(is_kind(pol, POLICY), four_at(pol, PARENT) == 0),
     )
 }
 
-pub fn unlock_status(store: &[u8], c: &[u8], chip: &[u8]) -> u8
-    ensures { λ r. ⌜ r ≡ status (faults82 (now (c .entry)) (now (chip .entry)) (records (now (store .entry)))) ⌝ }
+fn unlock_status(x: &[u8], h: &[u8], pol: &[u8], puk: &[u8], c: &[u8], chip: &[u8]) -> u8
+    ensures { λ r. ⌜ ((rs : List Rec) → Seen (now (c .entry)) rs (now (x .entry)) (now (h .entry)) → r ≡ status (unlockFaults (now (c .entry)) (now (chip .entry)) (now (x .entry)) (now (pol .entry)) (now (puk .entry)) rs)) ⌝ }
 {
-    let k = four_at(c, 1);
-    let x = target(store, k);
-    let pol = policy_of(store, x);
-    let puk = puk_of(store, pol);
     let gone = either(
-        is_missing(3, pol, four_at(x, 12)),
-        is_missing(2, puk, four_at(pol, 12)),
+        is_missing(pol, POLICY, four_at(x, PARENT)),
+        is_missing(puk, PUK, four_at(pol, PARENT)),
     );
-    let n1 = fault(0, !is_typed(c, chip), 16);
-    let n2 = fault(n1, !is_target(store, k), 7);
-    let n3 = fault(n2, is_without_puk(x, pol), 17);
-    fault(n3, gone, 20)
+    let n1 = fault(DONE, !is_typed(c, chip), NO_FORM);
+    let n2 = fault(n1, !is_reached(x, h), NO_KEY);
+    let n3 = fault(n2, is_without_puk(x, pol), BREAKS_RULE);
+    fault(n3, gone, NO_PARENT)
 }
 
 // 83
-pub fn change_status(store: &[u8], c: &[u8], chip: &[u8]) -> u8
-    ensures { λ r. ⌜ r ≡ status (faults83 (now (c .entry)) (now (chip .entry)) (records (now (store .entry)))) ⌝ }
+fn change_status(x: &[u8], h: &[u8], pol: &[u8], c: &[u8], chip: &[u8]) -> u8
+    ensures { λ r. ⌜ ((rs : List Rec) → Seen (now (c .entry)) rs (now (x .entry)) (now (h .entry)) → r ≡ status (changeFaults (now (c .entry)) (now (chip .entry)) (now (x .entry)) (now (pol .entry)) rs)) ⌝ }
 {
-    let k = four_at(c, 1);
-    let x = target(store, k);
-    let pol = policy_of(store, x);
-    let n1 = fault(0, !is_change(c, chip), 16);
-    let n2 = fault(n1, !is_target(store, k), 7);
-    let n3 = fault(n2, four_at(x, 12) == 0, 17);
-    let n4 = fault(n3, byte_at(pol, 50) == 0, 17);
-    fault(n4, !call_text::pin_fits(pol, new_pin(c)), 17)
+    let n1 = fault(DONE, !is_change(c, chip), NO_FORM);
+    let n2 = fault(n1, !is_reached(x, h), NO_KEY);
+    let n3 = fault(n2, four_at(x, PARENT) == 0, BREAKS_RULE);
+    let n4 = fault(n3, byte_at(pol, USER_MODIFIABLE) == 0, BREAKS_RULE);
+    fault(n4, !call_text::pin_fits(pol, new_pin(c)), BREAKS_RULE)
 }
 
 // 100
-pub fn use_status(store: &[u8], c: &[u8], chip: &[u8]) -> u8
-    ensures { λ r. ⌜ r ≡ status (faults100 (now (c .entry)) (now (chip .entry)) (records (now (store .entry)))) ⌝ }
+fn use_status(x: &[u8], h: &[u8], pol: &[u8], c: &[u8], chip: &[u8]) -> u8
+    ensures { λ r. ⌜ ((rs : List Rec) → Seen (now (c .entry)) rs (now (x .entry)) (now (h .entry)) → r ≡ status (useFaults (now (c .entry)) (now (chip .entry)) (now (x .entry)) (now (pol .entry)) rs)) ⌝ }
 {
-    let k = four_at(c, 1);
-    let x = target(store, k);
-    let pol = policy_of(store, x);
-    let p = four_at(x, 12);
-    let n1 = fault(0, !is_typed(c, chip), 16);
-    let n2 = fault(n1, !is_target(store, k), 7);
-    let n3 = fault(n2, is_missing(3, pol, p), 20);
-    fault(n3, both(p == 0, is_given(c)), 1)
+    let p = four_at(x, PARENT);
+    let n1 = fault(DONE, !is_typed(c, chip), NO_FORM);
+    let n2 = fault(n1, !is_reached(x, h), NO_KEY);
+    let n3 = fault(n2, is_missing(pol, POLICY, p), NO_PARENT);
+    fault(n3, both(p == 0, is_given(c)), WRONG)
 }
 
 // ---- a typed PIN or PUK: at the limit nothing is compared and nothing changes; a wrong value adds one; what a right one does is the
 // method's. Values are compared over their whole length
-
-pub enum Verdict {
-    Locked,
-    Wrong,
-    Right,
-}
 
 // A limit of 0 keeps no count and never locks.
 fn is_locked(limit: u8, errors: u8) -> bool
@@ -160,7 +196,7 @@ fn is_locked(limit: u8, errors: u8) -> bool
 }
 
 fn judge(limit: u8, errors: u8, stored: &[u8], typed: &[u8]) -> Verdict
-    ensures { λ r. ⌜ verdictOf r ≡ verdict limit errors (now (stored .entry)) (now (typed .entry)) ⌝ }
+    ensures { λ r. ⌜ r ≡ caseOf (verdict limit errors (now (stored .entry)) (now (typed .entry))) ⌝ }
 {
     if is_locked(limit, errors) {
         return Verdict::Locked;
@@ -171,235 +207,241 @@ fn judge(limit: u8, errors: u8, stored: &[u8], typed: &[u8]) -> Verdict
     Verdict::Wrong
 }
 
-// The key's PIN, under its policy.
-pub fn pin_check(policy: &[u8], key: &[u8], typed: &[u8]) -> Verdict
-    ensures { λ r. ⌜ verdictOf r ≡ pinCheck (now (policy .entry)) (now (key .entry)) (now (typed .entry)) ⌝ }
+// What a verdict comes to, where a wrong value and a right one have these deeds.
+fn by(v: Verdict, missed: Deed, right: Deed) -> Step
+    ensures { λ r. ⌜ r ≡ stepBy v missed right ⌝ }
 {
-    judge(byte_at(policy, 2), byte_at(key, 2), text_at(key, 49), typed)
-}
-
-// The PUK's value.
-pub fn puk_check(puk: &[u8], typed: &[u8]) -> Verdict
-    ensures { λ r. ⌜ verdictOf r ≡ pukCheck (now (puk .entry)) (now (typed .entry)) ⌝ }
-{
-    judge(byte_at(puk, 2), byte_at(puk, 3), text_at(puk, 49), typed)
-}
-
-// The PUK of the key k.
-pub fn puk_for<'a>(store: &'a [u8], k: u32) -> &'a [u8]
-    ensures { λ r. ⌜ now r ≡ pukFor k (records (now (store .entry))) ⌝ }
-{
-    puk_of(store, policy_of(store, target(store, k)))
-}
-
-// The counts of the key k and of its PUK become one more, or 0. A PUK without limit keeps no count.
-fn pin_up(store: &mut [u8], k: u32)
-    ensures { λ _. ⌜ Becomes (pinUp k (records (now (store .entry)))) (now (store .entry)) (now (store .exit)) ⌝ }
-{
-    let x = target(store, k);
-    let own = four_at(x, 4);
-    let session = four_at(x, 8);
-    add_count(store, 4, own, session, 2);
-}
-
-fn puk_up(store: &mut [u8], k: u32)
-    ensures { λ _. ⌜ Becomes (pukUp k (records (now (store .entry)))) (now (store .entry)) (now (store .exit)) ⌝ }
-{
-    let x = puk_for(store, k);
-    let own = four_at(x, 4);
-    let session = four_at(x, 8);
-    store_edits::change(store, Choice::Limited(2, own, session), Edit::AddOne(3));
-}
-
-pub fn pin_down(store: &mut [u8], k: u32)
-    ensures { λ _. ⌜ Becomes (pinDown k (records (now (store .entry)))) (now (store .entry)) (now (store .exit)) ⌝ }
-{
-    let x = target(store, k);
-    let own = four_at(x, 4);
-    let session = four_at(x, 8);
-    clear_count(store, 4, own, session, 2);
-}
-
-pub fn puk_down(store: &mut [u8], k: u32)
-    ensures { λ _. ⌜ Becomes (pukDown k (records (now (store .entry)))) (now (store .entry)) (now (store .exit)) ⌝ }
-{
-    let x = puk_for(store, k);
-    let own = four_at(x, 4);
-    let session = four_at(x, 8);
-    clear_count(store, 2, own, session, 3);
-}
-
-// Whether the value is the key's PIN. A wrong one has been counted.
-pub fn try_pin(store: &mut [u8], k: u32, typed: &[u8]) -> bool
-    ensures { λ r. ⌜ Tried (pinTry k (now (typed .entry)) (records (now (store .entry)))) (records (now (store .entry))) (pinUp k (records (now (store .entry)))) r (now (store .entry)) (now (store .exit)) ⌝ }
-{
-    let x = target(store, k);
-    let v = pin_check(policy_of(store, x), x, typed);
     match v {
-        Verdict::Locked => false,
-        Verdict::Wrong => {
-            pin_up(store, k);
-            false
-        }
-        Verdict::Right => true,
+        Verdict::Locked => Step {
+            status: WRONG,
+            deed: Deed::Nothing,
+        },
+        Verdict::Wrong => Step {
+            status: WRONG,
+            deed: missed,
+        },
+        Verdict::Right => Step {
+            status: DONE,
+            deed: right,
+        },
     }
 }
 
-// Whether it is the value of the key's PUK. A wrong one has been counted.
-pub fn try_puk(store: &mut [u8], k: u32, typed: &[u8]) -> bool
-    ensures { λ r. ⌜ Tried (pukTry k (now (typed .entry)) (records (now (store .entry)))) (records (now (store .entry))) (pukUp k (records (now (store .entry)))) r (now (store .entry)) (now (store .exit)) ⌝ }
+// The value against the key's PIN, under its policy.
+fn by_pin(pol: &[u8], x: &[u8], typed: &[u8], right: Deed) -> Step
+    ensures { λ r. ⌜ ((w : List ℕ) (rs : List Rec) → outOf r w rs ≡ tried (pinCheck (now (pol .entry)) (now (x .entry)) (now (typed .entry))) rs (map (pinMissed (now (x .entry))) rs) (doneBy right w rs)) ⌝ }
 {
-    let v = puk_check(puk_for(store, k), typed);
-    match v {
-        Verdict::Locked => false,
-        Verdict::Wrong => {
-            puk_up(store, k);
-            false
-        }
-        Verdict::Right => true,
+    let v = judge(
+        byte_at(pol, RETRY_LIMIT),
+        byte_at(x, KEY_ERRORS),
+        text_at(x, VALUE),
+        typed,
+    );
+    let key = Choice::That(KEY, four_at(x, OWN), four_at(x, HOME));
+    by(v, Deed::Count(key, Edit::AddOne(KEY_ERRORS as u8)), right)
+}
+
+// The value against the PUK's. A PUK without limit keeps no count.
+fn by_puk(puk: &[u8], typed: &[u8], right: Deed) -> Step
+    ensures { λ r. ⌜ ((w : List ℕ) (rs : List Rec) → outOf r w rs ≡ tried (pukCheck (now (puk .entry)) (now (typed .entry))) rs (map (pukMissed (now (puk .entry))) rs) (doneBy right w rs)) ⌝ }
+{
+    let v = judge(
+        byte_at(puk, RETRY_LIMIT),
+        byte_at(puk, PUK_ERRORS),
+        text_at(puk, VALUE),
+        typed,
+    );
+    let it = Choice::Limited(PUK, four_at(puk, OWN), four_at(puk, HOME));
+    by(v, Deed::Count(it, Edit::AddOne(PUK_ERRORS as u8)), right)
+}
+
+// ---- what each call comes to
+
+// 80: by the PIN under DeleteProtection 1; by the PUK under 2, whose count becomes 0 first: it is seen where another policy keeps that PUK.
+fn delete_step(store: &[u8], c: &[u8], chip: &[u8]) -> Step
+    ensures { λ r. ⌜ outOf r (typedNew (now (c .entry))) (records (now (store .entry))) ≡ inRange (deleteKey (now (c .entry)) (now (chip .entry))) (records (now (store .entry))) ⌝ }
+{
+    if MOST_RECORDS < store.len() / RECORD_BYTES {
+        return Step {
+            status: UNSOUND,
+            deed: Deed::Nothing,
+        };
+    }
+    let k = four_at(c, SUBJECT);
+    let x = target(store, k);
+    let n = delete_status(x, home(store, k), c, chip);
+    if n != DONE {
+        return Step {
+            status: n,
+            deed: Deed::Nothing,
+        };
+    }
+    let protection = byte_at(x, DELETE_PROTECTION);
+    if protection == 0 {
+        return Step {
+            status: DONE,
+            deed: Deed::Remove(k),
+        };
+    }
+    let pol = policy_of(store, x);
+    if protection == BY_PIN {
+        return by_pin(pol, x, typed(c), Deed::Remove(k));
+    }
+    let puk = puk_of(store, pol);
+    by_puk(
+        puk,
+        typed(c),
+        Deed::Clear(k, four_at(puk, OWN), four_at(puk, HOME)),
+    )
+}
+
+// 82
+fn unlock_step(store: &[u8], c: &[u8], chip: &[u8]) -> Step
+    ensures { λ r. ⌜ outOf r (typedNew (now (c .entry))) (records (now (store .entry))) ≡ inRange (unlockKey (now (c .entry)) (now (chip .entry))) (records (now (store .entry))) ⌝ }
+{
+    if MOST_RECORDS < store.len() / RECORD_BYTES {
+        return Step {
+            status: UNSOUND,
+            deed: Deed::Nothing,
+        };
+    }
+    let k = four_at(c, SUBJECT);
+    let x = target(store, k);
+    let pol = policy_of(store, x);
+    let puk = puk_of(store, pol);
+    let n = unlock_status(x, home(store, k), pol, puk, c, chip);
+    if n != DONE {
+        return Step {
+            status: n,
+            deed: Deed::Nothing,
+        };
+    }
+    by_puk(puk, typed(c), Deed::Unlock(k))
+}
+
+// Who gets a new PIN with the key.
+fn pinned(x: &[u8], pol: &[u8]) -> Pinned
+    ensures { λ r. ⌜ r ≡ pinnedBy (now (x .entry)) (now (pol .entry)) ⌝ }
+{
+    Pinned {
+        key: four_at(x, OWN),
+        home: four_at(x, HOME),
+        policy: four_at(x, PARENT),
+        shared: both(is_kind(pol, POLICY), byte_at(pol, GROUPING) == SHARED),
     }
 }
 
-// ---- the methods
-
-// The key k is removed.
-fn remove(store: &mut [u8], k: u32)
-    requires { ⌜ length (now store) / 256 ≤ 256 ⌝ }
-    ensures { λ _. ⌜ Becomes (removed k (records (now (store .entry)))) (now (store .entry)) (now (store .exit)) ⌝ }
+// 83
+fn change_step(store: &[u8], c: &[u8], chip: &[u8]) -> Step
+    ensures { λ r. ⌜ outOf r (typedNew (now (c .entry))) (records (now (store .entry))) ≡ inRange (changePin (now (c .entry)) (now (chip .entry))) (records (now (store .entry))) ⌝ }
 {
+    if MOST_RECORDS < store.len() / RECORD_BYTES {
+        return Step {
+            status: UNSOUND,
+            deed: Deed::Nothing,
+        };
+    }
+    let k = four_at(c, SUBJECT);
+    let x = target(store, k);
+    let pol = policy_of(store, x);
+    let n = change_status(x, home(store, k), pol, c, chip);
+    if n != DONE {
+        return Step {
+            status: n,
+            deed: Deed::Nothing,
+        };
+    }
+    by_pin(pol, x, typed(c), Deed::Repin(pinned(x, pol)))
+}
+
+// 100: a key without policy has no PIN.
+fn use_step(store: &[u8], c: &[u8], chip: &[u8]) -> Step
+    ensures { λ r. ⌜ outOf r (typedNew (now (c .entry))) (records (now (store .entry))) ≡ useKey (now (c .entry)) (now (chip .entry)) (records (now (store .entry))) ⌝ }
+{
+    let k = four_at(c, SUBJECT);
+    let x = target(store, k);
+    let pol = policy_of(store, x);
+    let n = use_status(x, home(store, k), pol, c, chip);
+    if n != DONE {
+        return Step {
+            status: n,
+            deed: Deed::Nothing,
+        };
+    }
+    if four_at(x, PARENT) == 0 {
+        return Step {
+            status: DONE,
+            deed: Deed::Nothing,
+        };
+    }
+    let used = Choice::That(KEY, four_at(x, OWN), four_at(x, HOME));
+    by_pin(
+        pol,
+        x,
+        typed(c),
+        Deed::Count(used, Edit::Clear(KEY_ERRORS as u8)),
+    )
+}
+
+// ---- and is done
+
+// The PUK's count becomes 0, and then the key is removed.
+fn clear_and_remove(store: &mut [u8], k: u32, own: u32, session: u32)
+    ensures { λ _. ⌜ Becomes (lostWithPuk k own session (records (now (store .entry)))) (now (store .entry)) (now (store .exit)) ⌝ }
+{
+    clear_count(store, PUK, own, session, PUK_ERRORS as u8);
     carry(store, Keys::One(k), Keys::Nobody);
 }
 
-// Its PUK's count becomes 0, and then it is removed: the count is seen where another policy keeps that PUK.
-fn clear_and_remove(store: &mut [u8], k: u32)
-    requires { ⌜ length (now store) / 256 ≤ 256 ⌝ }
-    ensures { λ _. ⌜ Becomes (cleared k (records (now (store .entry)))) (now (store .entry)) (now (store .exit)) ⌝ }
+fn act(store: &mut [u8], d: Deed, c: &[u8])
+    ensures { λ _. ⌜ Becomes (doneBy d (typedNew (now (c .entry))) (records (now (store .entry)))) (now (store .entry)) (now (store .exit)) ⌝ }
 {
-    puk_down(store, k);
-    remove(store, k);
+    match d {
+        Deed::Nothing => {}
+        Deed::Count(which, edit) => store_edits::change(store, which, edit),
+        Deed::Remove(k) => carry(store, Keys::One(k), Keys::Nobody),
+        Deed::Clear(k, own, session) => clear_and_remove(store, k, own, session),
+        Deed::Unlock(k) => carry(store, Keys::Nobody, Keys::One(k)),
+        Deed::Repin(g) => change_pin(store, g, new_pin(c)),
+    }
 }
 
-fn delete_by_pin(store: &mut [u8], k: u32, v: &[u8]) -> u8
-    requires { ⌜ length (now store) / 256 ≤ 256 ⌝ }
-    ensures { λ r. ⌜ Answers (byPin k (now (v .entry)) (removed k) (records (now (store .entry)))) (bareReply r) (now (store .entry)) (now (store .exit)) ⌝ }
+fn enact(store: &mut [u8], s: Step, c: &[u8]) -> u8
+    ensures { λ r. ⌜ Answers (outOf s (typedNew (now (c .entry))) (records (now (store .entry)))) (bareReply r) (now (store .entry)) (now (store .exit)) ⌝ }
 {
-    if !try_pin(store, k, v) {
-        return 1;
-    }
-    remove(store, k);
-    0
-}
-
-fn delete_by_puk(store: &mut [u8], k: u32, v: &[u8]) -> u8
-    requires { ⌜ length (now store) / 256 ≤ 256 ⌝ }
-    ensures { λ r. ⌜ Answers (byPuk k (now (v .entry)) (cleared k) (records (now (store .entry)))) (bareReply r) (now (store .entry)) (now (store .exit)) ⌝ }
-{
-    if !try_puk(store, k, v) {
-        return 1;
-    }
-    clear_and_remove(store, k);
-    0
-}
-
-fn delete_key(store: &mut [u8], k: u32, v: &[u8]) -> u8
-    requires { ⌜ length (now store) / 256 ≤ 256 ⌝ }
-    ensures { λ r. ⌜ Answers (deleting k (now (v .entry)) (records (now (store .entry)))) (bareReply r) (now (store .entry)) (now (store .exit)) ⌝ }
-{
-    let p = byte_at(target(store, k), 3);
-    if p == 0 {
-        remove(store, k);
-        return 0;
-    }
-    if p == 1 {
-        return delete_by_pin(store, k, v);
-    }
-    delete_by_puk(store, k, v)
+    let d = s.deed;
+    act(store, d, c);
+    s.status
 }
 
 // 80
 pub fn delete(store: &mut [u8], c: &[u8], chip: &[u8]) -> u8
     ensures { λ r. ⌜ Answers (inRange (deleteKey (now (c .entry)) (now (chip .entry))) (records (now (store .entry)))) (bareReply r) (now (store .entry)) (now (store .exit)) ⌝ }
 {
-    if 256 < store.len() / 256 {
-        return 19;
-    }
-    let n = delete_status(store, c, chip);
-    if n != 0 {
-        return n;
-    }
-    delete_key(store, four_at(c, 1), typed(c))
-}
-
-fn unlock_key(store: &mut [u8], k: u32, v: &[u8]) -> u8
-    requires { ⌜ length (now store) / 256 ≤ 256 ⌝ }
-    ensures { λ r. ⌜ Answers (byPuk k (now (v .entry)) (unlocked k) (records (now (store .entry)))) (bareReply r) (now (store .entry)) (now (store .exit)) ⌝ }
-{
-    if !try_puk(store, k, v) {
-        return 1;
-    }
-    carry(store, Keys::Nobody, Keys::One(k));
-    0
+    let s = delete_step(store, c, chip);
+    enact(store, s, c)
 }
 
 // 82
 pub fn unlock(store: &mut [u8], c: &[u8], chip: &[u8]) -> u8
     ensures { λ r. ⌜ Answers (inRange (unlockKey (now (c .entry)) (now (chip .entry))) (records (now (store .entry)))) (bareReply r) (now (store .entry)) (now (store .exit)) ⌝ }
 {
-    if 256 < store.len() / 256 {
-        return 19;
-    }
-    let n = unlock_status(store, c, chip);
-    if n != 0 {
-        return n;
-    }
-    unlock_key(store, four_at(c, 1), typed(c))
-}
-
-fn change_key(store: &mut [u8], k: u32, v: &[u8], w: &[u8]) -> u8
-    requires { ⌜ length (now store) / 256 ≤ 256 ⌝ }
-    ensures { λ r. ⌜ Answers (byPin k (now (v .entry)) (repinned k (now (w .entry))) (records (now (store .entry)))) (bareReply r) (now (store .entry)) (now (store .exit)) ⌝ }
-{
-    if !try_pin(store, k, v) {
-        return 1;
-    }
-    change_pin(store, k, w);
-    0
+    let s = unlock_step(store, c, chip);
+    enact(store, s, c)
 }
 
 // 83
 pub fn change(store: &mut [u8], c: &[u8], chip: &[u8]) -> u8
     ensures { λ r. ⌜ Answers (inRange (changePin (now (c .entry)) (now (chip .entry))) (records (now (store .entry)))) (bareReply r) (now (store .entry)) (now (store .exit)) ⌝ }
 {
-    if 256 < store.len() / 256 {
-        return 19;
-    }
-    let n = change_status(store, c, chip);
-    if n != 0 {
-        return n;
-    }
-    change_key(store, four_at(c, 1), typed(c), new_pin(c))
-}
-
-fn open_key(store: &mut [u8], k: u32, v: &[u8]) -> u8
-    ensures { λ r. ⌜ Answers (opening k (now (v .entry)) (records (now (store .entry)))) (bareReply r) (now (store .entry)) (now (store .exit)) ⌝ }
-{
-    if four_at(target(store, k), 12) == 0 {
-        return 0;
-    }
-    if !try_pin(store, k, v) {
-        return 1;
-    }
-    pin_down(store, k);
-    0
+    let s = change_step(store, c, chip);
+    enact(store, s, c)
 }
 
 // 100
 pub fn use_key(store: &mut [u8], c: &[u8], chip: &[u8]) -> u8
     ensures { λ r. ⌜ Answers (useKey (now (c .entry)) (now (chip .entry)) (records (now (store .entry)))) (bareReply r) (now (store .entry)) (now (store .exit)) ⌝ }
 {
-    let n = use_status(store, c, chip);
-    if n != 0 {
-        return n;
-    }
-    open_key(store, four_at(c, 1), typed(c))
+    let s = use_step(store, c, chip);
+    enact(store, s, c)
 }

@@ -13,27 +13,26 @@ use Rattle.paper.proofs.Forms.{both, cases}
 use Rattle.laws.proofs.Choice.{choose, same-test, only-in, only-out}
 use Rattle.laws.proofs.Inserting.{four-zeros}
 use Rattle.laws.proofs.Lists.{map-map, map-same}
-use Rattle.laws.proofs.Losses.{effect-is}
+use Rattle.laws.proofs.Losses.{named-key, effect-is}
 use Rattle.laws.proofs.Facts.{Facts}
 use Rattle.rule.proofs.Kin.{Kin}
-use Rattle.rule.proofs.Changes.{kin-stale}
+use Rattle.rule.proofs.RecordEdits.{kin-stale}
 use Rattle.laws.proofs.Handles.{carries}
 use Rattle.rule.proofs.Effect.{effect-fate, effect-kept}
-use Rattle.rule.proofs.Sealing.{Fit, seal, sealed-is, sealed-kept}
+use Rattle.rule.proofs.ClosedRecord.{sealed-is}
+use Rattle.rule.proofs.Sealing.{Fit, seal, sealed-kept}
 
 -- where no key of the session is removed or unlocked, its records stay, but for pendings
 module _ (d u : Keys) (rs : List Rec) (F : Facts rs) (s : ℕ)
     (off : (k : Rec) → List·Memᴰ k rs → kind k ≡ KEY → session k ≡ s → (d (own k) ≡ true → ⊥) × (u (own k) ≡ true → ⊥)) where
   none-goes : (x : Rec) → List·Memᴰ x rs → session x ≡ s → Fact (goes d rs x) → ⊥
-  none-goes x m e (inl w) = off x m (w .0) e .0 (w .1)
-  none-goes x m e (inr (inl w)) = let v = w .1 .0 in off (v .0) (v .1) (v .2 .0 .0) (v .2 .0 .1 .1 ∙ e) .0 (v .2 .1 .1)
-  none-goes x m e (inr (inr (inl w))) =
-      let v = w .1 .0 in
-      let y = v .2 .1 .1 .0 in
-      off (y .0) (y .1) (y .2 .0 .0) (y .2 .0 .1 .1 ∙ v .2 .0 .1 .1 ∙ e) .0 (y .2 .1 .1)
-  none-goes x m e (inr (inr (inr w))) =
-      let v = w .1 .1 .0 in
-      off (v .0) (v .1) (v .2 .0 .0) (v .2 .0 .1 ∙ F .alone x m .sessionCarries (w .0) .0 ∙ e) .0 (v .2 .1 .1)
+  none-goes x m e g =
+      let w = named-key d rs x g in
+      off (w .key) (at (w .there)) (w .is) (w .its s e (λ k. F .alone x m .sessionCarries k .0 ∙ e)) .0 (w .named)
+    where
+      at : {z : Rec} → (z ≡ x) ⊎ List·Memᴰ z rs → List·Memᴰ z rs
+      at (inl i) = subst (λ (y : Rec). List·Memᴰ y rs) (sym i) m
+      at (inr l) = l
 
   pub effect-still : (x : Rec) → List·Memᴰ x rs → session x ≡ s → (kind x ≡ PENDING → ⊥) → effect d u rs x ≡ x
   effect-still x m e n =
@@ -124,7 +123,7 @@ module _ (s : ℕ) (rs : List Rec) (F : Facts rs) (G : Fit s rs) (some-number : 
   sealed-same x = ap (λ (b : Bool). cond (test (kind x == PENDING)) zeros (cond (test (kind x == SESSION)) (cond b (shut x) zeros) x)) keys-same
 
   sealed-pending : (l : List Rec) (x : Rec) → kind x ≡ PENDING → sealed s l x ≡ zeros
-  sealed-pending l x k = sealed-is s l (λ y. y ≡ zeros) x (λ j. refl) (λ j. absurd (omega arith)) (λ j n. refl) (λ n m. absurd (m k))
+  sealed-pending l x k = sealed-is s l (λ y. y ≡ zeros) x (λ j. refl) (λ j. absurd (omega arith)) (λ j n. refl) (λ n m. absurd (n k))
 
   one-shot : (x : Rec) → List·Memᴰ x rs → seal s rs1 (f x) ≡ closing s rs x
   unfolding closing

@@ -17,8 +17,8 @@ use Rattle.laws.proofs.Verdicts.{lockedAt}
 use Rattle.laws.proofs.Choice.{holds}
 use Rattle.laws.proofs.Facts.{Facts}
 use Rattle.laws.proofs.Handles.{at-is, at-only}
-use Rattle.rule.proofs.Changes.{long, policy-range, kin-count, alone-count, kin-puk-count, alone-puk-count, kin-stale, alone-stale}
-use Rattle.rule.proofs.Calm.{softly, keyed, pins-kept}
+use Rattle.rule.proofs.RecordEdits.{long, policy-range, kin-count, alone-count, kin-puk-count, alone-puk-count, kin-stale, alone-stale}
+use Rattle.rule.proofs.QuietEdits.{softly, keyed, pins-kept}
 
 module _ (rs : List Rec) (F : Facts rs) where
   -- some pendings marked stale

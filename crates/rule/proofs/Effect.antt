@@ -17,12 +17,12 @@ use Rattle.paper.proofs.Forms.{cases}
 use Rattle.laws.proofs.Places.{part-kept, from}
 use Rattle.laws.proofs.Inserting.{byte-zeros}
 use Rattle.laws.proofs.Edits.{clear-same, clear-zero, stale-parent}
-use Rattle.laws.proofs.Losses.{remains, all-lost, keysUnder, policiesUnder, keysIn, goes-key, goes-policy, goes-puk, goes-session, goes-kind, effect-is}
+use Rattle.laws.proofs.Losses.{remains, all-lost, keysUnder, policiesUnder, keysIn, goes-key, goes-policy, goes-puk, goes-session, goes-among, going, a-key, a-policy, a-puk, a-session, effect-is}
 use Rattle.laws.proofs.Facts.{Alone, Facts}
 use Rattle.rule.proofs.Kin.{Kin, kin-same}
-use Rattle.rule.proofs.Editing.{Edit, edited}
+use Rattle.rule.proofs.StoreEdits.{Edit, edited}
 use Rattle.rule.proofs.Alone.{alone-zeros}
-use Rattle.rule.proofs.Changes.{long, kin-count, alone-count, kin-puk-count, alone-puk-count, kin-stale, alone-stale}
+use Rattle.rule.proofs.RecordEdits.{long, kin-count, alone-count, kin-puk-count, alone-puk-count, kin-stale, alone-stale}
 
 module _ (d u : Keys) (rs : List Rec) (F : Facts rs) where
   abbrev f : Rec → Rec
@@ -108,10 +108,10 @@ module _ (d u : Keys) (rs : List Rec) (F : Facts rs) where
       stays-not : Goes x → (j : ℕ) → kind y ≡ j → ⊥
       stays-not g zero i = omega arith
       stays-not g (suc zero) i = omega arith
-      stays-not g (suc (suc zero)) i = stays y (omega arith) Y (inr (inr (inl (puk-gone x y mx my k i e g))))
-      stays-not g (suc (suc (suc zero))) i = stays y (omega arith) Y (inr (inl (policy-gone x y mx my k i e g)))
+      stays-not g (suc (suc zero)) i = stays y (omega arith) Y (going d rs y (a-puk (puk-gone x y mx my k i e g)))
+      stays-not g (suc (suc (suc zero))) i = stays y (omega arith) Y (going d rs y (a-policy (policy-gone x y mx my k i e g)))
       stays-not g (suc (suc (suc (suc zero)))) i =
-          stays y (omega arith) Y (inl (all-lost rs (keysIn x) (keyGoes d rs) (goes-session d rs x k g .1) y my (i, sym e)))
+          stays y (omega arith) Y (going d rs y (a-key (all-lost rs (keysIn x) (keyGoes d rs) (goes-session d rs x k g .1) y my (i, sym e))))
       stays-not g (suc (suc (suc (suc (suc zero))))) i =
           let c = goes-session d rs x k g .0 in
           let w = F .related x mx y my .pendingOpen k i (sym e) in
@@ -126,7 +126,7 @@ module _ (d u : Keys) (rs : List Rec) (F : Facts rs) where
             by-kind Alone x (λ g. alone-zeros) (λ n. F .alone x m)
             (λ n k. alone-puk-count x (F .alone x m) (clear 3 x) (clear-same 3 x) k (rw (clear-zero 3 x (rw (long x (F .alone x m)) (lit≤ tt))) (omega arith)))
             (λ n k. alone-count x (F .alone x m) (clear 2 x) (clear-same 2 x) k (λ z. cleared x m)) (λ n k. alone-stale x (F .alone x m) k);
-        counter = λ x m k. lives x m (λ g. kinds x k (goes-kind d rs x g));
+        counter = λ x m k. lives x m (λ g. let w = goes-among d rs x g in omega arith);
         counts = λ x y mx my g.
             let k = g .1 .0 in
             by-kind (λ z. keyErrors z ≤ retryLimit x) y (λ h. rw (byte-zeros 2) (omega arith)) (λ n. F .related x mx y my .keyCounts g)
@@ -138,28 +138,22 @@ module _ (d u : Keys) (rs : List Rec) (F : Facts rs) where
         home = home′;
         puk = λ x y mx my a b e s Y.
             lives x mx
-            (λ g. stays y (omega arith) Y (inr (inl (all-lost rs (policiesUnder x) (policyGoes d rs) (goes-puk d rs x a g) y my (b, (sym e, sym s))))));
+            (λ g. stays y (omega arith) Y (going d rs y (a-policy (all-lost rs (policiesUnder x) (policyGoes d rs) (goes-puk d rs x a g) y my (b, (sym e, sym s))))));
         policy = λ x y mx my a b e s Y.
             lives x mx
-            (λ g. stays y (omega arith) Y (inl (all-lost rs (keysUnder x) (keyGoes d rs) (goes-policy d rs x a g) y my (b, (sym e, sym s)))));
+            (λ g. stays y (omega arith) Y (going d rs y (a-key (all-lost rs (keysUnder x) (keyGoes d rs) (goes-policy d rs x a g) y my (b, (sym e, sym s))))));
         key = λ x y mx my a b e n Y. lives x mx (λ g. n (aimed y my b (ap d (sym e) ∙ goes-key d rs x a g) Y));
         hasKey = λ x mx a t X.
-            let w = remains rs (keysIn x) (keyGoes d rs) (F .housed x mx .keyThere (a, sym (state= x a X) ∙ t)) (λ l. stays x (omega arith) X (inr (inr (inr (a, (sym (state= x a X) ∙ t, l)))))) in
+            let w = remains rs (keysIn x) (keyGoes d rs) (F .housed x mx .keyThere (a, sym (state= x a X) ∙ t)) (λ l. stays x (omega arith) X (going d rs x (a-session (a, (sym (state= x a X) ∙ t, l))))) in
             (w .0, w .1, w .2 .0 .0, w .2 .0 .1, key-lives (w .0) (w .1) (w .2 .0 .0) (w .2 .1));
         hasPolicy = λ x y mx my a t X b e Y.
-            let w = remains rs (policiesUnder y) (policyGoes d rs) (F .used x mx y my .puk (a, sym (state= x a X) ∙ t) e b) (λ l. stays y (omega arith) Y (inr (inr (inl (b, l))))) in
+            let w = remains rs (policiesUnder y) (policyGoes d rs) (F .used x mx y my .puk (a, sym (state= x a X) ∙ t) e b) (λ l. stays y (omega arith) Y (going d rs y (a-puk (b, l)))) in
             (w .0, w .1, w .2 .0 .0, w .2 .0 .1 .0, w .2 .0 .1 .1, policy-lives (w .0) (w .1) (w .2 .0 .0) (w .2 .1));
         hasChild = λ x y mx my a t X b e Y.
-            let w = remains rs (keysUnder y) (keyGoes d rs) (F .used x mx y my .policy (a, sym (state= x a X) ∙ t) e b) (λ l. stays y (omega arith) Y (inr (inl (b, l)))) in
+            let w = remains rs (keysUnder y) (keyGoes d rs) (F .used x mx y my .policy (a, sym (state= x a X) ∙ t) e b) (λ l. stays y (omega arith) Y (going d rs y (a-policy (b, l)))) in
             (w .0, w .1, w .2 .0 .0, w .2 .0 .1 .0, w .2 .0 .1 .1, key-lives (w .0) (w .1) (w .2 .0 .0) (w .2 .1));
       }
     where
-      kinds : (x : Rec) → kind x ≡ 6 → (kind x ≡ KEY) ⊎ ((kind x ≡ POLICY) ⊎ ((kind x ≡ PUK) ⊎ (kind x ≡ SESSION))) → ⊥
-      kinds x k (inl a) = omega arith
-      kinds x k (inr (inl a)) = omega arith
-      kinds x k (inr (inr (inl a))) = omega arith
-      kinds x k (inr (inr (inr a))) = omega arith
-
       key-lives : (x : Rec) → List·Memᴰ x rs → kind x ≡ KEY → (Fact (keyGoes d rs x) → ⊥) → Kin x (f x)
       key-lives x m k n = lives x m (λ g. n (k, goes-key d rs x k g))
 

@@ -12,25 +12,25 @@ use borrow.Author.Tests.{eqb-true, eq-eqb}
 use Rattle.paper.specs.Form.{Rec, Form, _==_, _=<_, no, _and_, _or_, each, some, test, Fact, only}
 use Rattle.paper.specs.Records.{records, kind, KEY, PENDING, own, session, parent, operation, sessionOf, is, bears, zeros}
 use Rattle.paper.specs.Sound.{hasHandle}
-use Rattle.paper.specs.Closing.{Keys, noKeys, one, held, holds, hasKey, sealed, closing, effect, goes, policyGoes, pendingOn, isPending, lowest, freed, carried, carryOut, sealAll, closedLiterally}
+use Rattle.paper.specs.Closing.{Keys, noKeys, one, held, holds, hasKey, sealed, closing, effect, goes, pendingOn, isPending, lowest, freed, carried, carryOut, sealAll, closedLiterally}
 use Rattle.paper.specs.Answer.{isOpen}
 use Rattle.paper.proofs.Forms.{both, cases, contrary}
-use Rattle.laws.proofs.Choice.{choose, only-is, only-in, only-out}
-use Rattle.laws.proofs.Facts.{Facts, Distinct}
+use Rattle.laws.proofs.Choice.{same-true, fails, choose, only-is, only-in, only-out}
+use Rattle.laws.proofs.Losses.{named-key}
+use Rattle.laws.proofs.Facts.{Facts, Distinct, facts-of}
 use Rattle.laws.proofs.Handles.{unique}
 use Rattle.laws.proofs.Inserting.{byte-zeros, four-zeros}
 use Rattle.laws.proofs.Lists.{map-map, map-same, sought, pairs-cases}
 use Rattle.laws.proofs.Stores.{Whole, whole-records}
 use Rattle.rule.specs.Bags.{bit, count}
 use Rattle.rule.specs.Literally.{Literally}
-use Rattle.rule.proofs.Answers.{false-test}
-use Rattle.rule.proofs.Seats.{facts-of, seat-of}
-use Rattle.rule.proofs.Shutting.{closing-in, closing-out, sealed-is}
-use Rattle.rule.proofs.Turns.{effect-session}
-use Rattle.rule.proofs.Blocks.{Off, Homed, effect-still, effect-free, sealed-by}
-use Rattle.rule.proofs.Twice.{effect-none, effect-twice, either-true, right-true, _or-else_}
-use Rattle.rule.proofs.Parties.{held-real, off-open, homed, session-own, borne}
-use Rattle.rule.proofs.Swaps.{effect-other}
+use Rattle.rule.proofs.SessionHandles.{seat-of}
+use Rattle.rule.proofs.ClosedRecord.{closing-in, closing-out, sealed-is}
+use Rattle.rule.proofs.SessionFate.{effect-session}
+use Rattle.rule.proofs.LocalEffect.{Off, Homed, effect-still, effect-free, sealed-by}
+use Rattle.rule.proofs.TwoEffects.{effect-none, effect-twice, either-true, right-true, _or-else_}
+use Rattle.rule.proofs.TwoSessions.{held-real, off-open, homed, session-own, borne}
+use Rattle.rule.proofs.EitherOrder.{effect-other}
 use Rattle.rule.proofs.Stands.{two-ways}
 
 -- ---- lists
@@ -116,14 +116,8 @@ count-less p p′ (x ∷ xs) h q m a b = go (List·Memᴰ·cases-cons m) (λ w. 
 effect-nothing : (rs : List Rec) (x : Rec) → effect noKeys noKeys rs x ≡ x
 effect-nothing rs x = effect-none noKeys noKeys rs x off (λ i. contrary (sym (i .1))) (λ (k, (p, m, (a, (b, (c, (y, l, w)))))). contrary (sym (w .0 .1))) unmarked
   where
-    policy-stays : (y : Rec) → Fact (policyGoes noKeys rs y) → ⊥
-    policy-stays y (k, ((z, m, p), n)) = contrary (sym (p .1 .1))
-
     off : Fact (goes noKeys rs x) → ⊥
-    off (inl g) = contrary (sym (g .1))
-    off (inr (inl g)) = policy-stays x g
-    off (inr (inr (inl (k, ((z, m, p), n))))) = policy-stays z (p .1)
-    off (inr (inr (inr (k, (c, ((z, m, p), n)))))) = contrary (sym (p .1 .1))
+    off g = contrary (sym (named-key noKeys rs x g .named))
 
     unmarked : Fact (pendingOn noKeys x or pendingOn noKeys x) → ⊥
     unmarked (inl g) = contrary (sym (g .1))
@@ -199,12 +193,7 @@ module _ (rs : List Rec) (F : Facts rs) (whole : Whole rs) (a : ℕ) (oa : Fact 
               at (inr g) = ap K (sym (f .1 .1 .1)) ∙ carry q g o
 
       same-keys : (K : Keys) (op : ℕ) → ((k : ℕ) → K k ≡ true → holds a op rs k ≡ true) → ((k : ℕ) → holds a op rs k ≡ true → K k ≡ true) → K ≡ holds a op rs
-      same-keys K op f g = λ i k. go (K k) (holds a op rs k) (f k) (g k) i
-        where
-          go : (x y : Bool) → (x ≡ true → y ≡ true) → (y ≡ true → x ≡ true) → x ≡ y
-          go true y p q = sym (p refl)
-          go false true p q = q refl
-          go false false p q = refl
+      same-keys K op f g = λ i k. same-true (K k) (holds a op rs k) (f k) (g k) i
 
       sealed-all : sealAll a rs1 ≡ map (closing a rs) rs
       sealed-all = map-map (only (bears a) (sealed a rs1)) h rs ∙ map-same (λ x. only (bears a) (sealed a rs1) (h x)) (closing a rs) rs at
@@ -373,7 +362,7 @@ module _ (rs : List Rec) (F : Facts rs) (whole : Whole rs) (a : ℕ) (oa : Fact 
       -- one pending fewer
       fewer : count (λ x. test (isPending a (next x))) rs < count (λ x. test (isPending a (h x))) rs
       fewer = count-less (λ x. test (isPending a (next x))) (λ x. test (isPending a (h x))) rs was q mq
-          (ap (λ (y : Rec). test (isPending a y)) q-gone ∙ false-test (isPending a zeros) (λ p. let z = byte-zeros 0 in let k = p .0 in omega arith))
+          (ap (λ (y : Rec). test (isPending a y)) q-gone ∙ fails (isPending a zeros) (λ p. let z = byte-zeros 0 in let k = p .0 in omega arith))
           (ap (λ (y : Rec). test (isPending a y)) hq ∙ both (isPending a q) .1 pq)
         where
           was : (x : Rec) → List·Memᴰ x rs → test (isPending a (next x)) ≡ true → test (isPending a (h x)) ≡ true

@@ -16,8 +16,9 @@ use Rattle.paper.specs.Calls.{subject, isSessionCall, known, postIn, postForm}
 use Rattle.paper.specs.Act.{Out, Act, refuse, perform}
 use Rattle.paper.specs.Posting.{Look, look, postAs, postBy}
 use Rattle.paper.specs.Answer.{Answer, told, written, step, sessionStep, sessionAct, isOpen}
-use Rattle.paper.proofs.Forms.{both, cases, contrary}
-use Rattle.laws.proofs.Choice.{either}
+use Rattle.paper.proofs.Forms.{both, cases}
+use Rattle.laws.proofs.Methods.{by-method}
+use Rattle.laws.proofs.Choice.{fails, either}
 use Rattle.laws.proofs.Handles.{unique}
 use Rattle.laws.proofs.Lists.{at-block, at-found}
 use Rattle.laws.proofs.Stores.{records-joined, whole-records}
@@ -25,16 +26,16 @@ use Rattle.rule.specs.Runs.{Call, answered, after}
 use Rattle.rule.specs.Bags.{count, SameRecords}
 use Rattle.rule.specs.Orders.{asks, names, objectOf, closedKey, Wants, SameReply, SameOutcome, Orders, Apart, OrdersApart}
 use Rattle.rule.proofs.Bags.{shuffled}
-use Rattle.laws.proofs.Facts.{Facts}
-use Rattle.rule.proofs.Answers.{false-test, refusedWith, tooShort, answer-short, answer-unknown, answer-shut, answer-step}
-use Rattle.rule.proofs.Seats.{facts-of, opened, object-home}
-use Rattle.rule.proofs.Tame.{Tame, Asking, tame}
-use Rattle.rule.proofs.Turns.{live, Below}
-use Rattle.rule.proofs.Calls.{turn-step}
-use Rattle.rule.proofs.Kept.{kept}
-use Rattle.rule.proofs.Acts.{Roomy, outcome, roomy, store-is, reply-is, outcome-opens}
-use Rattle.rule.proofs.Parties.{Two, block-a, Sight, sight, held-real, real-b}
-use Rattle.rule.proofs.Swaps.{same-records}
+use Rattle.laws.proofs.Facts.{Facts, facts-of}
+use Rattle.rule.proofs.Answers.{refusedWith, tooShort, answer-short, answer-unknown, answer-shut, answer-step}
+use Rattle.rule.proofs.SessionHandles.{opened, object-home}
+use Rattle.rule.proofs.KeepsToSession.{KeepsTo, Asking, keeps-to}
+use Rattle.rule.proofs.SessionFate.{live, Below}
+use Rattle.rule.proofs.FateUnderCalls.{turn-step}
+use Rattle.rule.proofs.Rule.{kept}
+use Rattle.rule.proofs.ActsAsEdits.{Roomy, outcome, roomy, store-is, reply-is, outcome-opens}
+use Rattle.rule.proofs.TwoSessions.{Two, block-a, Sight, sight, held-real, real-b}
+use Rattle.rule.proofs.EitherOrder.{same-records}
 
 -- ---- what a call decides
 
@@ -47,7 +48,7 @@ post-same : (op : ℕ) (name : String) (c chip : List ℕ) (blk : List Rec) (l l
 post-same op name c chip blk l l′ h = cases (postForm c chip) (λ f. go f (h f)) (λ n. malformed l n ∙ sym (malformed l′ n))
   where
     malformed : (l : Look) → (Fact (postForm c chip) → ⊥) → postAs op name c chip blk l ≡ refuse 16
-    malformed l n = unfold postBy in rw (false-test (postForm c chip) n)
+    malformed l n = unfold postBy in rw (fails (postForm c chip) n)
 
     unseen : (l : Look) → Fact (postForm c chip) → l .there ≡ false → postAs op name c chip blk l ≡ refuse 7
     unseen l f e = unfold postBy in rw (both (postForm c chip) .1 f, e)
@@ -59,15 +60,19 @@ post-same op name c chip blk l l′ h = cases (postForm c chip) (λ f. go f (h f
 act-same : (c chip : List ℕ) (blk blk′ : List Rec) (l l′ : Look) → Fact (isSessionCall c) → blk ≡ blk′ → (Asking c chip (postIn c chip .key) → Sight l l′)
     → sessionAct c chip blk l ≡ sessionAct c chip blk′ l′
 unfolding sessionAct
-act-same c chip blk blk′ l l′ (inl i) e h = rw (i, e)
-act-same c chip blk blk′ l l′ (inr (inl i)) e h = rw i
-act-same c chip blk blk′ l l′ (inr (inr (inl i))) e h = rw (i, e)
-act-same c chip blk blk′ l l′ (inr (inr (inr (inl i)))) e h = rw (i, e)
-act-same c chip blk blk′ l l′ (inr (inr (inr (inr (inl i))))) e h = rw (i, e)
-act-same c chip blk blk′ l l′ (inr (inr (inr (inr (inr (inl i)))))) e h = rw (i, e)
-act-same c chip blk blk′ l l′ (inr (inr (inr (inr (inr (inr (inl i))))))) e h = rw (i, e) (post-same 50 "postDeleteKey" c chip blk′ l l′ (λ f. h ((inl i, f), refl)))
-act-same c chip blk blk′ l l′ (inr (inr (inr (inr (inr (inr (inr (inl i)))))))) e h = rw (i, e) (post-same 51 "postUnlockKey" c chip blk′ l l′ (λ f. h ((inr i, f), refl)))
-act-same c chip blk blk′ l l′ (inr (inr (inr (inr (inr (inr (inr (inr i)))))))) e h = contrary (sym i)
+act-same c chip blk blk′ l l′ i e h =
+    by-method c
+    (record {
+      close = λ m. rw (m, e);
+      abort = λ m. rw m;
+      puk = λ m. rw (m, e);
+      policy = λ m. rw (m, e);
+      key = λ m. rw (m, e);
+      path = λ m. rw (m, e);
+      delete = λ m. rw (m, e) (post-same 50 "postDeleteKey" c chip blk′ l l′ (λ f. h ((inl m, f), refl)));
+      unlock = λ m. rw (m, e) (post-same 51 "postUnlockKey" c chip blk′ l l′ (λ f. h ((inr m, f), refl)));
+    })
+    i
 
 -- ---- one call, on bytes
 
@@ -225,11 +230,11 @@ module _ (s : List ℕ) (p q : Call) (X : Apart s (subject (p .bytes)) (subject 
         apart = λ k z x y. X .notBoth k (wants s p a k z x) (wants s q b k z y);
       }
 
-  tA : Tame a wp A
-  tA = tame (p .bytes) (p .chip) rs F oa (lp .onSession)
+  tA : KeepsTo a wp A
+  tA = keeps-to (p .bytes) (p .chip) rs F oa (lp .onSession)
 
-  tB : Tame b wq B
-  tB = tame (q .bytes) (q .chip) rs F ob (lq .onSession)
+  tB : KeepsTo b wq B
+  tB = keeps-to (q .bytes) (q .chip) rs F ob (lq .onSession)
 
   done-q : Done s q
   done-q = done s q (X .isSound) lq ob
@@ -332,7 +337,7 @@ still-shut s p q X lq na o = cases (isOpen b (records s)) opened-b (λ nb. na
         let B = actOf q (records s) in
         let r = roomy b B (records s) (λ e. X .roomBA .atFirst (d .status ∙ e)) in
         let l = subst (λ (l : List Rec). Fact (some l (live a))) (d .store ∙ store-is b B (records s) r) (live-of (records (answered s q .store)) a o) in
-        na (open-of (records s) F a (outcome-opens b a (Asking (q .bytes) (q .chip)) (records s) (whole-records s) B (tame (q .bytes) (q .chip) (records s) F ob (lq .onSession)) l))
+        na (open-of (records s) F a (outcome-opens b a (Asking (q .bytes) (q .chip)) (records s) (whole-records s) B (keeps-to (q .bytes) (q .chip) (records s) F ob (lq .onSession)) l))
 
 shut-first : (s : List ℕ) (p q : Call) → Apart s (subject (p .bytes)) (subject (q .bytes)) p q → Live p → Live q
     → (Fact (isOpen (subject (p .bytes)) (records s)) → ⊥) → SameOutcome s p q
@@ -367,8 +372,11 @@ orders-apart s a b p q X = handled s p q
 far : (s : List ℕ) (a b : ℕ) (p : Call) → sound s ≡ true → (a ≡ b → ⊥) → Fact (isOpen b (records s))
     → ((h : ℕ) → Fact (names p h) → Fact (objectOf a h (records s) or closedKey h (records s)))
     → (k : ℕ) → Fact (asks p k) → sessionOf k ≡ b → ⊥
-far s a b p e ne ob n k w i = go (n k (inr (inr (inr w))))
+far s a b p e ne ob n k w i = go (n k (asks-names w))
   where
+    asks-names : Fact (asks p k) → Fact (names p k)
+    asks-names v = inr (inr (inr v))
+
     F : Facts (records s)
     F = facts-of s e
 

@@ -2,6 +2,7 @@
 use mathlib.Core.Path.{_≡_, sym, ap, _∙_}
 use mathlib.Core.Bool.{true}
 use mathlib.Core.List.{List, List·Memᴰ}
+use mathlib.Core.Option.{some as just}
 use Prim.Native.Nat.{ℕ, _+_, _≤_}
 use Prim.Native.String.{String}
 use native.Mathlib.Omega.{arith}
@@ -9,25 +10,24 @@ use Rattle.paper.specs.Limits.{mostObjects}
 use Rattle.paper.specs.Bytes.{allWithin}
 use Rattle.paper.specs.Form.{Rec, _==_, _=<_, say, no, _and_, some, Fact}
 use Rattle.paper.specs.Records.{byValue, kind, SESSION, KEY, PENDING, own, session, parent, sessionOf, at, block, state, keyManagement, nextObject, macCounter, keyLimit, isStale}
-use Rattle.paper.specs.Sound.{isIn}
 use Rattle.paper.specs.Closing.{held}
 use Rattle.paper.specs.Calls.{subject, postIn}
-use Rattle.paper.specs.Act.{Act, refuse, perform}
-use Rattle.paper.specs.Posting.{target, home, isTarget, Look, look, postFaults, pendingRecord, postAs, postBy}
+use Rattle.paper.specs.Act.{inside, perform, advance}
+use Rattle.paper.specs.Posting.{target, home, isTarget, Look, look, postFaults, pendingRecord}
 use Rattle.paper.specs.Answer.{isOpen}
-use Rattle.paper.proofs.Forms.{both, settled}
+use Rattle.paper.proofs.Forms.{both, Clear}
 use Rattle.laws.proofs.Choice.{holds}
 use Rattle.laws.proofs.Bytes.{four-most}
 use Rattle.laws.proofs.Fields.{tabled-field}
 use Rattle.laws.proofs.Lists.{at-found, at-byte, block-in}
 use Rattle.laws.proofs.Facts.{Facts}
 use Rattle.laws.proofs.Handles.{unique}
-use Rattle.rule.proofs.Changes.{within-of}
+use Rattle.rule.proofs.RecordEdits.{within-of}
 use Rattle.rule.proofs.UserCalls.{Stays}
-use Rattle.rule.proofs.Own.{refuse-kept, made, ready, small}
-use Rattle.rule.proofs.Sprouting.{numbered}
-use Rattle.rule.proofs.Built.{pending-head, pending-operation, pending-mark}
-use Rattle.rule.proofs.Sprouts.{sprout-pending}
+use Rattle.rule.proofs.CallersSession.{made, ready, small}
+use Rattle.rule.proofs.NewObject.{numbered}
+use Rattle.rule.proofs.MadeRecords.{pending-head, pending-operation, pending-mark}
+use Rattle.rule.proofs.NewObjectFits.{sprout-pending}
 
 -- the look at the key, as facts
 look-there : (k : ℕ) (rs : List Rec) → look k rs .there ≡ true → Fact (isTarget k rs)
@@ -58,9 +58,6 @@ module _ (c chip : List ℕ) (bytes : allWithin 0 255 c ≡ true) (rs : List Rec
   abbrev l : Look
   l = look k rs
 
-  abbrev Kept : Act → Type 0
-  Kept a = Stays (perform s a rs)
-
   module _ (T : Fact (isTarget k rs)) where
     key-here : List·Memᴰ (target k rs) rs × ((kind (target k rs) ≡ KEY) × ((own (target k rs) ≡ k) × (session (target k rs) ≡ sessionOf k)))
     key-here = at-found KEY k (sessionOf k) rs (at-byte KEY k (sessionOf k) rs 0 (λ z. let e = T .0 in omega arith))
@@ -89,10 +86,9 @@ module _ (c chip : List ℕ) (bytes : allWithin 0 255 c ≡ true) (rs : List Rec
         let t = F .alone x i .targetUnlessStale a .0 in
         holds (isStale x == 0) (λ n. a-handle (sym e ∙ t (omega arith)))
 
-  pub post-kept : (op : ℕ) (name : String) → 50 ≤ op → op ≤ 51 → Kept (postAs op name c chip blk l)
-  unfolding postBy
-  post-kept op name lo hi =
-      settled Kept (postFaults op name c chip (postIn c chip) (byValue ses) blk l) refuse _ (refuse-kept s rs F O) (λ g.
+  pub post-kept : (op : ℕ) (name : String) → 50 ≤ op → op ≤ 51 → Clear (postFaults op name c chip (postIn c chip) (byValue ses) blk l) → (h : ℕ) (t : List ℕ)
+      → Stays (perform s (inside h t (advance s 1 1) (just (pendingRecord op s k (byValue ses)))) rs)
+  post-kept op name lo hi g h t =
       let T = look-there k rs (holds (say (l .there)) (search)) in
       let M = look-managed k rs (holds (say (l .managed)) (search)) in
       let once : Fact (some blk (held s k)) → ⊥ = search in
@@ -102,12 +98,12 @@ module _ (c chip : List ℕ) (bytes : allWithin 0 255 c ≡ true) (rs : List Rec
       let a = small s rs F O (nextObject ses) (r .1) in
       let b = four-most c bytes 5 in
       let n = pendingRecord op s k (byValue ses) in
-      let t = key-here T in
-      made s rs F O _ _ 1 n R
+      let x = key-here T in
+      made s rs F O h t 1 n R
       (sprout-pending s (nextObject ses) rs (r .0) (r .1) n k (pending-head op s k (byValue ses) a b lo hi) (a-handle T) (pending-mark op s k (byValue ses) a b lo hi)
-      (target k rs, t .0, t .1)
+      (target k rs, x .0, x .1)
       (λ x i j e f z.
       look-pinned k rs (holds (say (l .pinned)) (λ m. pin (sym (pending-operation op s k (byValue ses) a b lo hi) ∙ f, m)))
       (ap parent (sym (is-key T x i j e)) ∙ z))
       (λ x i j e. let h = is-home T x i j e in (ap state h ∙ T .1, ap keyManagement h ∙ M))
-      (λ x i j e f. once (x, block-in s rs i e, (j, (e, (not-stale T x i j f, f)))))))
+      (λ x i j e f. once (x, block-in s rs i e, (j, (e, (not-stale T x i j f, f))))))

@@ -1,21 +1,21 @@
 -- A session sealed at its close: its pendings freed, its record closed, or freed where it has no key. The store stays sound.
 use mathlib.Core.Path.{_≡_, refl, sym, ap, _∙_}
-use mathlib.Core.Bool.{cond}
 use mathlib.Core.List.{List, map, List·Memᴰ}
 use mathlib.Core.Logic.{_⊎_, inl, inr}
 use Prim.Native.Nat.{ℕ, zero, suc, _+_, _≤_}
 use native.Mathlib.Omega.{arith}
-use Rattle.paper.specs.Form.{Rec, _==_, test, Fact, only}
+use Rattle.paper.specs.Form.{Rec, Fact, only}
 use Rattle.paper.specs.Records.{kind, SESSION, PUK, POLICY, KEY, PENDING, COUNTER, CLOSED, own, session, bears, state, macCounter, keyLimit, pathSet, zeros}
 use Rattle.paper.specs.Sound.{isObject, child}
 use Rattle.paper.specs.Closing.{shut, hasKey, sealed}
-use Rattle.laws.proofs.Choice.{choose, only-is}
+use Rattle.laws.proofs.Choice.{only-is}
 use Rattle.laws.proofs.Inserting.{byte-zeros}
 use Rattle.laws.proofs.Facts.{Alone, Facts}
+use Rattle.rule.proofs.ClosedRecord.{sealed-is}
 use Rattle.rule.proofs.Kin.{Kin, kin-same}
-use Rattle.rule.proofs.Editing.{edited}
+use Rattle.rule.proofs.StoreEdits.{edited}
 use Rattle.rule.proofs.Alone.{alone-zeros}
-use Rattle.rule.proofs.Changes.{kin-shut, alone-shut}
+use Rattle.rule.proofs.RecordEdits.{kin-shut, alone-shut}
 
 -- what the refusals 17 and 6 leave
 pub record Fit (s : ℕ) (rs : List Rec) : Type 0 where
@@ -25,13 +25,6 @@ pub record Fit (s : ℕ) (rs : List Rec) : Type 0 where
   pub policies : (y : Rec) → List·Memᴰ y rs → kind y ≡ POLICY → session y ≡ s → Fact (child rs KEY y)
 
 -- what the seal makes of a record of the session
-pub sealed-is : (s : ℕ) (rs : List Rec) (P : Rec → Type 0) (x : Rec) → (kind x ≡ PENDING → P zeros) → (kind x ≡ SESSION → Fact (hasKey s rs) → P (shut x))
-    → (kind x ≡ SESSION → (Fact (hasKey s rs) → ⊥) → P zeros) → ((kind x ≡ SESSION → ⊥) → (kind x ≡ PENDING → ⊥) → P x) → P (sealed s rs x)
-unfolding sealed
-sealed-is s rs P x a b c d =
-    choose P (kind x == PENDING) zeros (cond (test (kind x == SESSION)) (cond (test (hasKey s rs)) (shut x) zeros) x) a (λ n.
-    choose P (kind x == SESSION) (cond (test (hasKey s rs)) (shut x) zeros) x (λ k. choose P (hasKey s rs) (shut x) zeros (b k) (c k)) (λ m. d m n))
-
 abbrev pub seal : ℕ → List Rec → Rec → Rec
 seal s rs = only (bears s) (sealed s rs)
 
@@ -43,7 +36,7 @@ module _ (s : ℕ) (rs : List Rec) (F : Facts rs) (G : Fit s rs) where
       → (session x ≡ s → kind x ≡ SESSION → (Fact (hasKey s rs) → ⊥) → P zeros)
       → ((session x ≡ s → kind x ≡ SESSION → ⊥) → (session x ≡ s → kind x ≡ PENDING → ⊥) → P x) → P (f x)
   is P x a b c d =
-      only-is P (bears s) (sealed s rs) x (λ e. sealed-is s rs P x (a e) (b e) (c e) (λ n m. d (λ q. n) (λ q. m))) (λ n. d (λ e k. n e) (λ e k. n e))
+      only-is P (bears s) (sealed s rs) x (λ e. sealed-is s rs P x (a e) (b e) (c e) (λ m n. d (λ q. n) (λ q. m))) (λ n. d (λ e k. n e) (λ e k. n e))
 
   -- all but the session's own record and its pendings
   same : (x : Rec) → (kind x ≡ SESSION → ⊥) → (kind x ≡ PENDING → ⊥) → f x ≡ x

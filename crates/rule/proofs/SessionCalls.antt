@@ -6,31 +6,30 @@ use mathlib.Core.Logic.{inl, inr}
 use mathlib.Core.Option.{none}
 use Prim.Native.Nat.{ℕ, _+_, _≤_}
 use native.Mathlib.Omega.{arith}
-use lib.Dec.{lit≤}
 use Rattle.sha256.specs.Sha256.{SHA256}
 use Rattle.paper.specs.Bytes.{allWithin}
 use Rattle.paper.specs.Form.{Rec, _==_, _=<_, Fact, only}
-use Rattle.paper.specs.Records.{byValue, SESSION, POLICY, KEY, at, block, is, macCounter, keyLimit, pathSet, zeros}
+use Rattle.paper.specs.Records.{SESSION, POLICY, KEY, at, block, is, macCounter, keyLimit, pathSet, zeros}
 use Rattle.paper.specs.Sound.{child}
-use Rattle.paper.specs.Calls.{method, subject, postIn, closeIn, pathIn}
-use Rattle.paper.specs.Act.{Act, refuse, close as closes, perform, noAttestation, advance}
-use Rattle.paper.specs.Objects.{pathFaults, certified, setPath, makePuk, makePolicy, makeKey, setPathBy}
-use Rattle.paper.specs.Posting.{look, postDelete, postUnlock}
-use Rattle.paper.specs.Sessions.{unfit, closeFaults, closeSession, abortFaults, abortSession, closeBy}
-use Rattle.paper.specs.Answer.{isOpen, sessionAct, sessionStep}
-use Rattle.paper.proofs.Forms.{settled}
-use Rattle.laws.proofs.Choice.{choose, holds}
+use Rattle.paper.specs.Calls.{subject, postIn, pathIn}
+use Rattle.paper.specs.Act.{Act, close as closes, perform, noAttestation, advance}
+use Rattle.paper.specs.Objects.{certified}
+use Rattle.paper.specs.Posting.{look}
+use Rattle.paper.specs.Sessions.{unfit}
+use Rattle.paper.specs.Answer.{isOpen, sessionStep}
+use Rattle.laws.proofs.Choice.{holds}
 use Rattle.laws.proofs.Fields.{tabled-field}
 use Rattle.laws.proofs.CallStrings.{length-hash}
 use Rattle.laws.proofs.Lists.{block-in, block-out}
+use Rattle.laws.proofs.Methods.{by-act}
 use Rattle.laws.proofs.Facts.{Facts}
-use Rattle.rule.proofs.Changes.{within-of, next-range}
-use Rattle.rule.proofs.Advancing.{path-kept}
+use Rattle.rule.proofs.RecordEdits.{within-of, next-range}
+use Rattle.rule.proofs.OwnEdits.{path-kept}
 use Rattle.rule.proofs.Sealing.{Fit}
 use Rattle.rule.proofs.Closes.{close-kept}
 use Rattle.rule.proofs.UserCalls.{Stays}
-use Rattle.rule.proofs.Own.{me, opened, some-number, refused, refuse-kept, inside-kept}
-use Rattle.rule.proofs.Making.{puk-kept, policy-kept, key-kept}
+use Rattle.rule.proofs.CallersSession.{me, opened, some-number, refused, refuse-kept, inside-kept}
+use Rattle.rule.proofs.MakingObjects.{puk-kept, policy-kept, key-kept}
 use Rattle.rule.proofs.Posting.{post-kept}
 
 module _ (c chip : List ℕ) (bytes : allWithin 0 255 c ≡ true) (rs : List Rec) (F : Facts rs) (O : Fact (isOpen (subject c) rs)) where
@@ -46,19 +45,7 @@ module _ (c chip : List ℕ) (bytes : allWithin 0 255 c ≡ true) (rs : List Rec
   abbrev Kept : Act → Type 0
   Kept a = Stays (perform s a rs)
 
-  -- ---- 12
-
-  set-kept : Kept (setPath c chip blk)
-  unfolding setPathBy
-  set-kept =
-      settled Kept (pathFaults c chip (pathIn c) (at KEY (pathIn c .key) s blk) (byValue ses)) refuse _ (refuse-kept s rs F O) (λ g.
-      let left = holds (macCounter ses + 1 =< keyLimit ses) (search) in
-      inside-kept s rs F O 0 noAttestation (λ r. only (is KEY (pathIn c .key) s) (certified (SHA256 (pathIn c .first))) (advance s 0 1 r)) none
-      (path-kept (pathIn c .key) s (SHA256 (pathIn c .first)) (length-hash (pathIn c .first)) rs F (λ x i k e.
-      let r = next-range x (F .alone x i) k in
-      (omega arith, rw (me s rs F O x i k e) left))))
-
-  -- ---- 3: what is not unfit fits
+  -- what is not unfit fits
 
   fit : macCounter ses + 2 ≤ keyLimit ses → (Fact (unfit blk) → ⊥) → Fit s rs
   fit left n =
@@ -79,30 +66,25 @@ module _ (c chip : List ℕ) (bytes : allWithin 0 255 c ≡ true) (rs : List Rec
   unfolding perform
   closes-kept t G = close-kept s rs F G (some-number s rs F O) (opened s rs F O)
 
-  shut-kept : Kept (closeSession c chip blk)
-  unfolding closeBy
-  shut-kept =
-      settled Kept (closeFaults c chip (closeIn c) (byValue ses) blk) refuse _ (refuse-kept s rs F O) (λ g.
-      let left = holds (macCounter ses + 2 =< keyLimit ses) (search) in
-      let n : Fact (unfit blk) → ⊥ = search in
-      closes-kept _ (fit left n))
-
-  -- ---- 5
-
-  abort-kept : Kept (abortSession c chip)
-  unfolding abortSession
-  abort-kept =
-      settled Kept (abortFaults c chip) refuse _ (refuse-kept s rs F O)
-      (λ g. inside-kept s rs F O 0 noAttestation (λ r. zeros) none (refused s rs F O 0))
-
   pub session-kept : Stays (sessionStep c chip rs)
-  unfolding sessionStep sessionAct
+  unfolding sessionStep
   session-kept =
-      choose Kept (method c == 3) (closeSession c chip blk) _ (λ e. shut-kept) (λ n3.
-      choose Kept (method c == 5) (abortSession c chip) _ (λ e. abort-kept) (λ n5.
-      choose Kept (method c == 8) (makePuk c chip blk) _ (λ e. puk-kept c chip bytes rs F O) (λ n8.
-      choose Kept (method c == 9) (makePolicy c chip blk) _ (λ e. policy-kept c chip bytes rs F O) (λ n9.
-      choose Kept (method c == 10) (makeKey c chip blk) _ (λ e. key-kept c chip bytes rs F O) (λ n10.
-      choose Kept (method c == 12) (setPath c chip blk) _ (λ e. set-kept) (λ n12.
-      choose Kept (method c == 50) (postDelete c chip blk (look (postIn c chip .key) rs)) (postUnlock c chip blk (look (postIn c chip .key) rs))
-      (λ e. post-kept c chip bytes rs F O 50 "postDeleteKey" (lit≤ tt) (lit≤ tt)) (λ n50. post-kept c chip bytes rs F O 51 "postUnlockKey" (lit≤ tt) (lit≤ tt))))))))
+      by-act c chip blk (look (postIn c chip .key) rs) Kept
+      (record {
+        refused = λ n l. refuse-kept s rs F O n;
+        close = λ e g.
+            let left = holds (macCounter ses + 2 =< keyLimit ses) (search) in
+            let n : Fact (unfit blk) → ⊥ = search in
+            closes-kept _ (fit left n);
+        abort = λ e. inside-kept s rs F O 0 noAttestation (λ r. zeros) none (refused s rs F O 0);
+        puk = λ e g. puk-kept c chip rs F bytes O g _ _;
+        policy = λ e g. policy-kept c chip rs F bytes O g _ _;
+        key = λ e g. key-kept c chip rs F bytes O g _ _;
+        path = λ e g.
+            let left = holds (macCounter ses + 1 =< keyLimit ses) (search) in
+            inside-kept s rs F O 0 noAttestation (λ r. only (is KEY (pathIn c .key) s) (certified (SHA256 (pathIn c .first))) (advance s 0 1 r)) none
+            (path-kept (pathIn c .key) s (SHA256 (pathIn c .first)) (length-hash (pathIn c .first)) rs F (λ x i k e.
+            let r = next-range x (F .alone x i) k in
+            (omega arith, rw (me s rs F O x i k e) left)));
+        post = λ op name lo hi h g. post-kept c chip bytes rs F O op name lo hi g _ _;
+      })

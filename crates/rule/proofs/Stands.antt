@@ -26,13 +26,15 @@ use Rattle.laws.proofs.Lists.{block-in}
 use Rattle.laws.proofs.Stores.{Whole, records-joined, whole-records}
 use Rattle.rule.specs.Runs.{Call, answered, after}
 use Rattle.rule.specs.Stands.{Holds, IsClose, Closes, NotBoth, FirstStands}
-use Rattle.laws.proofs.Facts.{Facts}
-use Rattle.rule.proofs.Answers.{settled-each, answer-is}
-use Rattle.rule.proofs.Seats.{facts-of, opened}
-use Rattle.rule.proofs.Shutting.{closing-out}
-use Rattle.rule.proofs.Twice.{effect-pending}
-use Rattle.rule.proofs.Turns.{goes-among, marked, Lost, stained, shut, Fate, holding, lost, Below, Turn, turn-refl, stale-kind, stale-session}
-use Rattle.rule.proofs.Calls.{turn-step}
+use Rattle.laws.proofs.Methods.{is-session, settled-by-number}
+use Rattle.laws.proofs.Losses.{goes-among}
+use Rattle.laws.proofs.Facts.{Facts, facts-of}
+use Rattle.rule.proofs.Answers.{answer-is}
+use Rattle.rule.proofs.SessionHandles.{opened}
+use Rattle.rule.proofs.ClosedRecord.{closing-out}
+use Rattle.rule.proofs.TwoEffects.{effect-pending}
+use Rattle.rule.proofs.SessionFate.{marked, Lost, stained, shut, Fate, holding, lost, Below, Turn, turn-refl, stale-kind, stale-session}
+use Rattle.rule.proofs.FateUnderCalls.{turn-step}
 
 -- ---- a close, on records
 
@@ -47,9 +49,8 @@ module _ (c chip : List ℕ) (rs : List Rec) (is-3 : method c ≡ 3) where
   -- a close that answers 0 was fit, and did all that a close does
   close-done : step c chip rs .status ≡ 0 → (Fact (unfit (block s rs)) → ⊥) × (step c chip rs .store ≡ map (closing s rs) rs)
   unfolding closeBy perform
-  close-done = rw step-close (settled-each Done (closeFaults c chip (closeIn c) (byValue (at SESSION s s (block s rs))) (block s rs)) refuse
-      (closes (attestation (byValue (at SESSION s s (block s rs))) (closeAttested (closeIn c))))
-      ((λ f z. absurd (omega arith)), ((λ f z. absurd (omega arith)), ((λ f z. absurd (omega arith)), ((λ f z. absurd (omega arith)), tt)))) (λ w z. (w .1 .1 .1 .0, refl)))
+  close-done = rw step-close (settled-by-number Done (closeFaults c chip (closeIn c) (byValue (at SESSION s s (block s rs))) (block s rs)) refuse
+      (closes (attestation (byValue (at SESSION s s (block s rs))) (closeAttested (closeIn c)))) refl (λ n l z. absurd (omega arith)) (λ w z. (search, refl)))
     where
       Done : Act → Type 0
       Done act = perform s act rs .status ≡ 0 → (Fact (unfit (block s rs)) → ⊥) × (perform s act rs .store ≡ map (closing s rs) rs)
@@ -100,7 +101,7 @@ module _ (rs : List Rec) (F : Facts rs) (whole : Whole rs) where
 turn-answer : (a : ℕ) (s : List ℕ) (q : Call) → Below a (records s) → Turn a (records s) (records (answered s q .store))
 turn-answer a s q b = answer-is (λ (o : Answer). Turn a (records s) (records (o .store))) s (q .bytes) (q .chip) (q .reply)
     (λ n r z. turn-refl a (records s) (whole-records s) b)
-    (λ w. let t = turn-step a (records s) (whole-records s) b (q .bytes) (q .chip) (facts-of s (w .isSound)) (w .onOpen) in
+    (λ w. let t = turn-step a (records s) (whole-records s) b (q .bytes) (q .chip) (facts-of s (w .sound)) (w .opened) in
     rw (records-joined (step (q .bytes) (q .chip) (records s) .store) (t .whole)) t)
 
 -- a close that answers 0, from what store and to what store
@@ -112,7 +113,7 @@ record Closed (s : List ℕ) (q : Call) (after : List ℕ) : Type 0 where
 
 closed-with : (s : List ℕ) (q : Call) → method (q .bytes) ≡ 3 → answered s q .status ≡ 0 → Closed s q (answered s q .store)
 closed-with s q e = answer-is (λ (o : Answer). o .status ≡ 0 → Closed s q (o .store)) s (q .bytes) (q .chip) (q .reply)
-    (λ n r nz z. absurd (nz z)) (λ w z. record { isSound = w .isSound; isOn = w .onOpen (inl e); zero = z; store = refl })
+    (λ n r l z. absurd (omega arith)) (λ w z. record { isSound = w .sound; isOn = w .opened (is-session (q .bytes) e refl); zero = z; store = refl })
 
 never : (b : ℕ) (s : List ℕ) (qs : List Call) → Below b (records s) → Lost b (records s) → Closes b s qs → ⊥
 never b s [] w l c = c

@@ -1,5 +1,5 @@
 -- Congruence: what a call is answered and what it leaves behind depend on the records in the store alone, not on their places nor
--- on how many places there are, status 2 apart. Proved in proofs/CongruingCalls.antt.
+-- on how many places there are, status 2 apart. Proved in proofs/Congruence.antt.
 use mathlib.Core.Path.{_≡_}
 use mathlib.Core.Bool.{true}
 use mathlib.Core.List.{List}

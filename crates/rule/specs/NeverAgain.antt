@@ -1,5 +1,5 @@
 -- Never again: a handle once given is not given again, whatever calls come between, and whether or not what it named is still there.
--- Only format is no call. Proved in proofs/HandingCalls.antt.
+-- Only format is no call. Proved in proofs/NeverAgain.antt.
 use mathlib.Core.Path.{_≡_}
 use mathlib.Core.Bool.{true}
 use mathlib.Core.List.{List, [], _∷_}

@@ -1,5 +1,5 @@
 -- The rule: from a sound store every call, whatever its bytes, leaves a sound store; format makes one; an unsound store is never
--- changed by a call. Proved in proofs/Kept.antt.
+-- changed by a call. Proved in proofs/Rule.antt.
 use mathlib.Core.Path.{_≡_}
 use mathlib.Core.Bool.{true, false}
 use mathlib.Core.List.{List}

@@ -3,9 +3,10 @@ use mathlib.Core.Bool.{true, false, _&&_, and-true}
 use mathlib.Core.Path.{_≡_}
 use borrow.Author.Tests.{ne-eqb}
 use Rattle.paper.specs.Bytes.{byte}
-use Rattle.paper.specs.Form.{Rec, test}
-use Rattle.paper.specs.Table.{obeysTable}
-use Rattle.paper.specs.Sound.{sessionCarries, objectCarries, bareKey, pinnedKey, pukCounts, macCounts, lengthsRise, noDigest, keyWiped, targetUnlessStale, alone}
+use Rattle.paper.specs.Form.{Rec, test, _==_, say, _and_, _then_}
+use Rattle.paper.specs.Records.{kind, KEY, pathSet, certificateDigest}
+use Rattle.paper.specs.Table.{obeysTable, isBlank}
+use Rattle.paper.specs.Sound.{sessionCarries, objectCarries, bareKey, pinnedKey, pukCounts, macCounts, lengthsRise, keyWiped, targetUnlessStale, alone}
 
 module _ (r : Rec) where
   pub untabled : obeysTable r ≡ false → test (alone r) ≡ false
@@ -25,7 +26,7 @@ module _ (r : Rec) (o : obeysTable r ≡ true) (c : test (objectCarries r) ≡ t
   pub of-policy : byte 0 r ≡ 3 → test (alone r) ≡ test (lengthsRise r)
   of-policy k = rw (o, c) (simp (k, and-true))
 
-  pub of-key : byte 0 r ≡ 4 → test (alone r) ≡ test (bareKey r) && (test (pinnedKey r) && test (noDigest r))
+  pub of-key : byte 0 r ≡ 4 → test (alone r) ≡ test (bareKey r) && (test (pinnedKey r) && test (kind r == KEY and pathSet r == 0 then say (isBlank (certificateDigest r))))
   of-key k = rw (o, c) (simp (k, and-true))
 
   pub of-pending : byte 0 r ≡ 5 → test (alone r) ≡ test (targetUnlessStale r)

@@ -1,1 +1,1 @@
-pub mod Shared
+pub mod Settled

@@ -1,50 +1,36 @@
-// The clauses of soundness that say that some record is there: what one record of a store asks of the others.
+// What one record of a store asks of the others: the clauses that say that some record is there, and those that say something of each.
 use hmac::is_same;
+use paper::GROUPING;
+use paper::HOME;
+use paper::KEY;
+use paper::KIND;
+use paper::OWN;
+use paper::PARENT;
+use paper::PENDING;
+use paper::PIN_WIDTH;
+use paper::POLICY;
+use paper::PUK;
+use paper::RECORD_BYTES;
+use paper::SESSION;
+use paper::SHARED;
+use paper::VALUE;
 use sound_pairs::is_closed;
 use sound_pairs::is_governed;
 use sound_pairs::is_object;
 use store_records::Choice;
 use store_records::byte_at;
+use store_records::first;
 use store_records::four_at;
 use store_records::has;
-use store_records::is_child;
-use store_records::is_that;
+use store_records::is_kind;
 use store_records::part_of;
 use store_records::record_at;
+use store_records::session_of;
 ghost use mathlib.Core.Path.{_≡_};
-ghost use Rattle.paper.specs.Form.{test, each, some, seek, _==_, no, _then_};
+ghost use Rattle.paper.specs.Form.{test, each, _==_, no, _then_};
 ghost use Rattle.paper.specs.Records.{records, kind, parent, session};
-ghost use Rattle.paper.specs.Sound.{parentless, isIn, sessionThere, keyThere, targetThere, housed, childless, policiesUsed, governs, pinsShared};
-ghost use Rattle.store_records.specs.Choices.{chosen};
-ghost use Rattle.sound_kin.specs.Shared.{hasPin};
-
-fn is_there(s: &[u8], k: u8, o: u32, h: u32) -> bool
-    ensures { λ b. ⌜ b ≡ test (isIn (records (now (s .entry))) k o h) ⌝ }
-{
-    let n = s.len() / 256;
-    let mut i: usize = 0;
-    while i < n {
-        if is_that(record_at(s, i), k, o, h) {
-            return true;
-        }
-        i += 1;
-    }
-    false
-}
-
-fn has_child(s: &[u8], k: u8, o: u32, h: u32) -> bool
-    ensures { λ b. ⌜ b ≡ test (some (records (now (s .entry))) (chosen (Choice.Child k o h))) ⌝ }
-{
-    let n = s.len() / 256;
-    let mut i: usize = 0;
-    while i < n {
-        if is_child(record_at(s, i), k, o, h) {
-            return true;
-        }
-        i += 1;
-    }
-    false
-}
+ghost use Rattle.paper.specs.Sound.{parentless, isIn, sessionThere, keyThere, targetThere, housed, childless, policiesUsed};
+ghost use Rattle.sound_kin.specs.Settled.{alike, met, settled};
 
 fn session_there(s: &[u8], y: &[u8]) -> bool
     ensures { λ b. ⌜ b ≡ test (sessionThere (records (now (s .entry))) (now (y .entry))) ⌝ }
@@ -52,22 +38,22 @@ fn session_there(s: &[u8], y: &[u8]) -> bool
     if !is_object(y) {
         return true;
     }
-    let h = four_at(y, 8);
-    is_there(s, 1, h, h)
+    let h = four_at(y, HOME);
+    has(s, Choice::That(SESSION, h, h))
 }
 
 // A record of kind k that has a parent has one of kind `above`: a PIN policy a PUK, a key a PIN policy.
 fn parent_there(s: &[u8], y: &[u8], k: u8, above: u8) -> bool
     ensures { λ b. ⌜ b ≡ test (kind (now (y .entry)) == k then no (parentless (now (y .entry))) then isIn (records (now (s .entry))) above (parent (now (y .entry))) (session (now (y .entry)))) ⌝ }
 {
-    if byte_at(y, 0) != k {
+    if byte_at(y, KIND) != k {
         return true;
     }
-    let p = four_at(y, 12);
+    let p = four_at(y, PARENT);
     if p == 0 {
         return true;
     }
-    is_there(s, above, p, four_at(y, 8))
+    has(s, Choice::That(above, p, four_at(y, HOME)))
 }
 
 fn key_there(s: &[u8], x: &[u8]) -> bool
@@ -76,41 +62,41 @@ fn key_there(s: &[u8], x: &[u8]) -> bool
     if !is_closed(x) {
         return true;
     }
-    has(s, Choice::Of(4, four_at(x, 4)))
+    has(s, Choice::Of(KEY, four_at(x, OWN)))
 }
 
 fn target_there(s: &[u8], y: &[u8]) -> bool
     ensures { λ b. ⌜ b ≡ test (targetThere (records (now (s .entry))) (now (y .entry))) ⌝ }
 {
-    if byte_at(y, 0) != 5 {
+    if byte_at(y, KIND) != PENDING {
         return true;
     }
-    let p = four_at(y, 12);
+    let p = four_at(y, PARENT);
     if p == 0 {
         return true;
     }
-    is_there(s, 4, p, p / 65536 * 65536)
+    has(s, Choice::That(KEY, p, session_of(p)))
 }
 
 // Whether all is there that a record asks for.
-pub fn is_housed(s: &[u8], r: &[u8]) -> bool
+fn is_housed(s: &[u8], r: &[u8]) -> bool
     ensures { λ b. ⌜ b ≡ test (housed (records (now (s .entry))) (now (r .entry))) ⌝ }
 {
-    let parents = parent_there(s, r, 3, 2)
-        & (parent_there(s, r, 4, 3) & (key_there(s, r) & target_there(s, r)));
+    let parents = parent_there(s, r, POLICY, PUK)
+        & (parent_there(s, r, KEY, POLICY) & (key_there(s, r) & target_there(s, r)));
     session_there(s, r) & parents
 }
 
 // Whether y is a PUK without PIN policy, or a PIN policy without key.
-pub fn is_childless(s: &[u8], y: &[u8]) -> bool
+fn is_childless(s: &[u8], y: &[u8]) -> bool
     ensures { λ b. ⌜ b ≡ test (childless (records (now (s .entry))) (now (y .entry))) ⌝ }
 {
-    let k = byte_at(y, 0);
-    if k == 2 {
-        return !has_child(s, 3, four_at(y, 4), four_at(y, 8));
+    let k = byte_at(y, KIND);
+    if k == PUK {
+        return !has(s, Choice::Child(POLICY, four_at(y, OWN), four_at(y, HOME)));
     }
-    if k == 3 {
-        return !has_child(s, 4, four_at(y, 4), four_at(y, 8));
+    if k == POLICY {
+        return !has(s, Choice::Child(KEY, four_at(y, OWN), four_at(y, HOME)));
     }
     false
 }
@@ -121,67 +107,38 @@ fn is_used(s: &[u8], x: &[u8], y: &[u8]) -> bool
     if !is_closed(x) {
         return true;
     }
-    if four_at(y, 8) != four_at(x, 4) {
+    if four_at(y, HOME) != four_at(x, OWN) {
         return true;
     }
     !is_childless(s, y)
 }
 
-fn are_used(s: &[u8], x: &[u8]) -> bool
-    ensures { λ b. ⌜ b ≡ test (each (records (now (s .entry))) (policiesUsed (records (now (s .entry))) (now (x .entry)))) ⌝ }
+fn is_alike(p: &[u8], f: &[u8], y: &[u8]) -> bool
+    ensures { λ b. ⌜ b ≡ test (alike (now (p .entry)) (now (f .entry)) (now (y .entry))) ⌝ }
 {
-    let n = s.len() / 256;
-    let mut i: usize = 0;
-    while i < n {
-        if !is_used(s, x, record_at(s, i)) {
-            return false;
-        }
-        i += 1;
-    }
-    true
-}
-
-// Whether no policy lacks a child in x, if x is a closed session.
-pub fn policies_used(s: &[u8], x: &[u8]) -> bool
-    ensures { λ b. ⌜ b ≡ test (each (records (now (s .entry))) (policiesUsed (records (now (s .entry))) (now (x .entry)))) ⌝ }
-{
-    if !is_closed(x) {
+    if byte_at(p, GROUPING) != SHARED {
         return true;
     }
-    are_used(s, x)
-}
-
-// The first key under a policy, or the empty record.
-fn first_governed<'a>(s: &'a [u8], p: &[u8]) -> &'a [u8]
-    ensures { λ r. ⌜ now r ≡ seek (governs (now (p .entry))) (records (now (s .entry))) ⌝ }
-{
-    let n = s.len() / 256;
-    let mut i: usize = 0;
-    while i < n {
-        if is_governed(p, record_at(s, i)) {
-            return record_at(s, i);
-        }
-        i += 1;
-    }
-    &s[0..0]
-}
-
-fn has_pin(p: &[u8], x: &[u8], y: &[u8]) -> bool
-    ensures { λ b. ⌜ b ≡ test (hasPin (now (p .entry)) (now (x .entry)) (now (y .entry))) ⌝ }
-{
     if !is_governed(p, y) {
         return true;
     }
-    is_same(part_of(x, 49, 17), part_of(y, 49, 17))
+    is_same(part_of(f, VALUE, PIN_WIDTH), part_of(y, VALUE, PIN_WIDTH))
 }
 
-fn all_have_pin(s: &[u8], p: &[u8], x: &[u8]) -> bool
-    ensures { λ b. ⌜ b ≡ test (each (records (now (s .entry))) (hasPin (now (p .entry)) (now (x .entry)))) ⌝ }
+// Whether what x asks of y is so; f is the key whose PIN the others under x must have.
+fn is_met(s: &[u8], x: &[u8], f: &[u8], y: &[u8]) -> bool
+    ensures { λ b. ⌜ b ≡ test (met (records (now (s .entry))) (now (x .entry)) (now (f .entry)) (now (y .entry))) ⌝ }
 {
-    let n = s.len() / 256;
+    is_used(s, x, y) & is_alike(x, f, y)
+}
+
+fn all_met(s: &[u8], x: &[u8], f: &[u8]) -> bool
+    ensures { λ b. ⌜ b ≡ test (each (records (now (s .entry))) (met (records (now (s .entry))) (now (x .entry)) (now (f .entry)))) ⌝ }
+{
+    let n = s.len() / RECORD_BYTES;
     let mut i: usize = 0;
     while i < n {
-        if !has_pin(p, x, record_at(s, i)) {
+        if !is_met(s, x, f, record_at(s, i)) {
             return false;
         }
         i += 1;
@@ -189,15 +146,16 @@ fn all_have_pin(s: &[u8], p: &[u8], x: &[u8]) -> bool
     true
 }
 
-// Whether the keys under p have equal PINs, if p is a shared PIN policy.
-pub fn pins_shared(s: &[u8], p: &[u8]) -> bool
-    ensures { λ b. ⌜ b ≡ test (pinsShared (records (now (s .entry))) (now (p .entry))) ⌝ }
+// Whether all is as the record x asks of the others. For most records the loop is not gone through.
+pub fn is_settled(s: &[u8], x: &[u8]) -> bool
+    ensures { λ b. ⌜ b ≡ test (settled (records (now (s .entry))) (now (x .entry))) ⌝ }
 {
-    if byte_at(p, 0) != 3 {
+    if !is_housed(s, x) {
+        return false;
+    }
+    if !(is_closed(x) | is_kind(x, POLICY)) {
         return true;
     }
-    if byte_at(p, 3) != 1 {
-        return true;
-    }
-    all_have_pin(s, p, first_governed(s, p))
+    let f = first(s, Choice::Child(KEY, four_at(x, OWN), four_at(x, HOME)));
+    all_met(s, x, f)
 }

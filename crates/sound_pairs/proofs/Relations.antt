@@ -5,10 +5,10 @@ use mathlib.Core.Path.{_≡_, refl, sym, _∙_}
 use mathlib.Core.Logic.{inl, inr}
 use native.Mathlib.Omega.{arith}
 use borrow.Author.Tests.{ne-eqb}
-use Rattle.paper.specs.Form.{Rec, Form, _and_, test, Fact}
+use Rattle.paper.specs.Form.{Rec, Form, _==_, _and_, test, Fact}
 use Rattle.paper.specs.Records.{kind, own, session, parent, operation, SESSION, POLICY, KEY, PENDING}
-use Rattle.paper.specs.Sound.{hasId, oneCounter, handlesDiffer, clientsDiffer, distinct, isObject, related, targetPinned, belowCounter}
-use Rattle.paper.proofs.Forms.{both, contrary}
+use Rattle.paper.specs.Sound.{hasId, oneCounter, handlesDiffer, idsDiffer, clientsDiffer, onePending, distinct, isObject, related, targetPinned, belowCounter}
+use Rattle.paper.proofs.Forms.{both, cases, contrary}
 use Rattle.sound_pairs.specs.Kinds.{ofSession, ofPolicy, concerned}
 
 -- statements that hold together have the same test
@@ -25,104 +25,29 @@ not-fact f e p = contrary (sym (both f .1 p) ∙ e)
 
 module _ (x y : Rec) where
   pub of-session : kind x ≡ SESSION → test (related x y) ≡ test (ofSession x y)
-  of-session k =
-      same-test (related x y) (ofSession x y)
-      (λ w. (w .0, (w .1 .1 .1 .1 .0, (w .1 .1 .1 .1 .1 .0, w .1 .1 .1 .1 .1 .1 .0))))
-      (λ w. (
-        w .0,
-        (
-          (λ e. absurd (omega arith)),
-          (
-            (λ g. absurd (omega (arith, g .0))),
-            (
-              (λ g. absurd (omega (arith, g .0))),
-              (w .1 .0, (w .1 .1 .0, (w .1 .1 .1, (λ e. absurd (omega arith))))),
-            ),
-          ),
-        ),
-      ))
+  of-session k = simp (k, and-true)
 
   pub of-policy : kind x ≡ POLICY → test (related x y) ≡ test (ofPolicy x y)
-  of-policy k =
-      same-test (related x y) (ofPolicy x y)
-      (λ w. (w .1 .1 .0, w .1 .1 .1 .0))
-      (λ w. (
-        (λ e. absurd (omega arith)),
-        (
-          (λ e. absurd (omega arith)),
-          (
-            w .0,
-            (
-              w .1,
-              (
-                (λ g. absurd (omega (arith, g .0))),
-                ((λ e. absurd (omega arith)), ((λ e. absurd (omega arith)), (λ e. absurd (omega arith)))),
-              ),
-            ),
-          ),
-        ),
-      ))
+  of-policy k = simp (k, and-true)
 
   pub of-key : kind x ≡ KEY → test (related x y) ≡ test (targetPinned x y)
-  of-key k =
-      same-test (related x y) (targetPinned x y)
-      (λ w. w .1 .1 .1 .1 .1 .1 .1)
-      (λ w. (
-        (λ e. absurd (omega arith)),
-        (
-          (λ e. absurd (omega arith)),
-          (
-            (λ g. absurd (omega (arith, g .0))),
-            (
-              (λ g. absurd (omega (arith, g .0))),
-              ((λ g. absurd (omega (arith, g .0))), ((λ e. absurd (omega arith)), ((λ e. absurd (omega arith)), w))),
-            ),
-          ),
-        ),
-      ))
+  of-key k = simp (k, and-true)
 
   pub of-counter : (kind x ≡ SESSION → ⊥) → (kind x ≡ POLICY → ⊥) → (kind x ≡ KEY → ⊥) → test (related x y) ≡ test (belowCounter x y)
-  of-counter n1 n3 n4 =
-      same-test (related x y) (belowCounter x y)
-      (λ w. w .1 .0)
-      (λ w. (
-        (λ e. absurd (n1 e)),
-        (
-          w,
-          (
-            (λ g. absurd (n3 (g .0))),
-            (
-              (λ g. absurd (n3 (g .0))),
-              (
-                (λ g. absurd (n1 (g .0))),
-                ((λ e. absurd (n1 e)), ((λ e. absurd (n1 e)), (λ e. absurd (n4 e)))),
-              ),
-            ),
-          ),
-        ),
-      ))
+  of-counter n1 n3 n4 = simp (ne-eqb (kind x) SESSION n1, ne-eqb (kind x) POLICY n3, ne-eqb (kind x) KEY n4, and-true)
 
   -- who is not concerned says nothing of any other
   pub unconcerned : test (concerned x) ≡ false → test (related x y) ≡ true
   unconcerned e =
       let n = not-fact (concerned x) e in
-      both (related x y) .1 (
-        (λ k. absurd (n (inl k))),
-        (
-          (λ k. absurd (n (inr (inr (inr k))))),
-          (
-            (λ g. absurd (n (inr (inl (g .0))))),
-            (
-              (λ g. absurd (n (inr (inl (g .0))))),
-              ((λ g. absurd (n (inl (g .0)))), ((λ k. absurd (n (inl k))), ((λ k. absurd (n (inl k))), (λ k q p o z. n (inr (inr (inl (k, z)))))))),
-            ),
-          ),
-        ),
-      )
+      cases (kind x == KEY)
+      (λ k. of-key k ∙ both (targetPinned x y) .1 (λ l q p o z. n (inr (inr (inl (k, z))))))
+      (λ k. of-counter (λ l. n (inl l)) (λ l. n (inr (inl l))) k ∙ both (belowCounter x y) .1 (λ l. absurd (n (inr (inr (inr l))))))
 
   -- what the second record's kind leaves: a session speaks of objects, a PIN policy of keys, a key of pendings
-  pub session-far : (Fact (isObject y) → ⊥) → test (ofSession x y) ≡ true
-  session-far n =
+  pub session-far : test (isObject y) ≡ false → test (ofSession x y) ≡ true
+  session-far e =
+      let n = not-fact (isObject y) e in
       both (ofSession x y) .1
       ((λ k o. absurd (n o)), ((λ c e. absurd (n (omega arith, omega arith))), ((λ k e. absurd (n (omega arith, omega arith))), (λ k e. absurd (n (omega arith, omega arith))))))
 
@@ -146,3 +71,10 @@ pub apart-distinct : (x y : Rec) → (session x ≡ session y → ⊥)
     → test (oneCounter x y and handlesDiffer x y and clientsDiffer x y) ≡ test (distinct x y)
 apart-distinct x y n =
     rw (ne-eqb (session x) (session y) n, past (test (hasId x)) (test (hasId y)), past (eqb (kind x) PENDING) (eqb (kind y) PENDING), and-true (test (clientsDiffer x y)))
+
+-- and of one session
+pub near-distinct : (x y : Rec) → test ((oneCounter x y and handlesDiffer x y and clientsDiffer x y) and idsDiffer x y and onePending x y) ≡ test (distinct x y)
+near-distinct x y =
+    same-test ((oneCounter x y and handlesDiffer x y and clientsDiffer x y) and idsDiffer x y and onePending x y) (distinct x y)
+    (λ ((o, (h, c)), (i, p)). (o, (h, (i, (c, p)))))
+    (λ (o, (h, (i, (c, p)))). ((o, (h, c)), (i, p)))

@@ -11,33 +11,46 @@ use Rattle.hmac.proofs.Sameness.{same-eq, eq-same}
 use Rattle.paper.specs.Limits.{pinWidth}
 use Rattle.paper.specs.Bytes.{part}
 use Rattle.paper.specs.Form.{Rec, _=<_, Fact, Pairs, test}
-use Rattle.paper.specs.Records.{kind, SESSION, KEY, PENDING, COUNTER, own, session, parent, sessionOf, grouping}
+use Rattle.paper.specs.Records.{kind, SESSION, PUK, POLICY, KEY, PENDING, COUNTER, own, session, parent, sessionOf, grouping}
 use Rattle.paper.specs.Sound.{isObject, hasHandle, hasCounter, closed, governs, related, Sound}
 use Rattle.paper.proofs.Forms.{cases}
 use Rattle.laws.proofs.Lists.{pairs-cases}
 use Rattle.laws.proofs.Facts.{Alone, Distinct, Related, Housed, Used, Shares, related-of, reify}
-use Rattle.sound_quick.specs.Near.{Sited}
+use Rattle.sound_quick.specs.Near.{sessionNear, objectNear, childNear, pukNear, policyNear, targetNear, near, Sited}
 use Rattle.sound_quick.proofs.Places.{stands, found, apart-at, there-at}
+
+-- what one record asks of its neighbours, by name
+record Near (c x p t k q y : Rec) : Type 0 where
+  session : Fact (sessionNear c k y)
+  home : Fact (objectNear x y)
+  policyUnder : Fact (childNear x k y PUK POLICY)
+  keyUnder : Fact (childNear x k y POLICY KEY)
+  puk : Fact (pukNear p y)
+  policy : Fact (policyNear p q y)
+  target : Fact (targetNear p t y)
+
+near-of : {c x p t k q y : Rec} → Fact (near c x p t k q y) → Near c x p t k q y
+near-of (session, (home, (policyUnder, (keyUnder, (puk, (policy, target)))))) =
+    record { session = session; home = home; policyUnder = policyUnder; keyUnder = keyUnder; puk = puk; policy = policy; target = target }
 
 module _ (rs : List Rec) (A : (r : Rec) → List·Memᴰ r rs → Alone r) (D : Pairs Distinct rs) where
   mem : (i : ℕ) → 1 ≤ kind (getD rs i []) → List·Memᴰ (getD rs i []) rs
   mem i k = stands rs i (there-at rs i k)
 
-  unique : (x y : Rec) → List·Memᴰ x rs → List·Memᴰ y rs → Fact (hasHandle x) → Fact (hasHandle y) → own x ≡ own y → x ≡ y
-  unique x y mx my a b e = go (pairs-cases Distinct rs D x y mx my)
+  -- two records that cannot stand at different places are one
+  one : (x y : Rec) → List·Memᴰ x rs → List·Memᴰ y rs → (Distinct x y → ⊥) → (Distinct y x → ⊥) → x ≡ y
+  one x y mx my n o = go (pairs-cases Distinct rs D x y mx my)
     where
       go : (x ≡ y) ⊎ (Distinct x y ⊎ Distinct y x) → x ≡ y
       go (inl q) = q
-      go (inr (inl d)) = absurd (d .handlesDiffer a b e)
-      go (inr (inr d)) = absurd (d .handlesDiffer b a (sym e))
+      go (inr (inl d)) = absurd (n d)
+      go (inr (inr d)) = absurd (o d)
+
+  unique : (x y : Rec) → List·Memᴰ x rs → List·Memᴰ y rs → Fact (hasHandle x) → Fact (hasHandle y) → own x ≡ own y → x ≡ y
+  unique x y mx my a b e = one x y mx my (λ d. d .handlesDiffer a b e) (λ d. d .handlesDiffer b a (sym e))
 
   one-counter : (x y : Rec) → List·Memᴰ x rs → List·Memᴰ y rs → kind x ≡ COUNTER → kind y ≡ COUNTER → x ≡ y
-  one-counter x y mx my a b = go (pairs-cases Distinct rs D x y mx my)
-    where
-      go : (x ≡ y) ⊎ (Distinct x y ⊎ Distinct y x) → x ≡ y
-      go (inl q) = q
-      go (inr (inl d)) = absurd (d .oneCounter a b)
-      go (inr (inr d)) = absurd (d .oneCounter b a)
+  one-counter x y mx my a b = one x y mx my (λ d. d .oneCounter a b) (λ d. d .oneCounter b a)
 
   one-place : (i j : ℕ) → i < length rs → j < length rs → Fact (hasHandle (getD rs i [])) → Fact (hasHandle (getD rs j [])) → own (getD rs i []) ≡ own (getD rs j []) → i ≡ j
   one-place i j li lj a b e = cases (suc i =< j)
@@ -48,22 +61,25 @@ module _ (rs : List Rec) (A : (r : Rec) → List·Memᴰ r rs → Alone r) (D : 
   handled : (x : Rec) → List·Memᴰ x rs → Fact (isObject x) → 1 ≤ own x
   handled x m o = let w = A x m .objectCarries o .0 in omega arith
 
-  module _ (m : ℕ) (up over under : ℕ → ℕ) (N : Sited rs m up over under) where
+  module _ (m : ℕ) (up over under : ℕ → ℕ) (S : Sited rs m up over under) where
+    N : (i : ℕ) → i < length rs → Near (getD rs m []) (getD rs (up i) []) (getD rs (over i) []) (getD rs (up (over i)) []) (getD rs (under i) []) (getD rs (under (over i)) []) (getD rs i [])
+    N i l = near-of (S i l)
+
     module _ (i : ℕ) (l : i < length rs) where
       -- a clause about x and the record here concerns x alone: the session that was shown,
       by-session : (x : Rec) → List·Memᴰ x rs → kind x ≡ SESSION → Fact (isObject (getD rs i [])) → session (getD rs i []) ≡ own x → x ≡ getD rs (up i) []
       by-session x mx kx o e =
-          let w = N i l .1 .0 o in
+          let w = N i l .home o in
           let k = w .0 .0 in
           unique x (getD rs (up i) []) mx (mem (up i) (omega arith)) (omega arith, omega arith) (omega arith, omega arith) (sym e ∙ sym (w .0 .1 .0))
 
       of-session : (x : Rec) → List·Memᴰ x rs → kind x ≡ SESSION → Fact (isObject (getD rs i [])) → session (getD rs i []) ≡ own x → Related x (getD rs i [])
-      of-session x mx kx o e = related-of x _ (subst (λ z. Fact (related z (getD rs i []))) (sym (by-session x mx kx o e)) (N i l .1 .0 o .1))
+      of-session x mx kx o e = related-of x _ (subst (λ z. Fact (related z (getD rs i []))) (sym (by-session x mx kx o e)) (N i l .home o .1))
 
       -- the counter,
       of-counter : (x : Rec) → List·Memᴰ x rs → kind x ≡ COUNTER → kind (getD rs i []) ≡ SESSION → Related x (getD rs i [])
       of-counter x mx kx ky =
-          let w = N i l .0 ky in
+          let w = N i l .session ky in
           let k = w .0 in
           related-of x _ (subst (λ z. Fact (related z (getD rs i []))) (sym (one-counter x (getD rs m []) mx (mem m (omega arith)) kx (w .0))) (w .1 .0))
 
@@ -74,19 +90,19 @@ module _ (rs : List Rec) (A : (r : Rec) → List·Memᴰ r rs → Alone r) (D : 
           let h = handled x mx (omega arith, omega arith) in
           let e = g .1 .1 .0 in
           let n : parent (getD rs i []) ≡ 0 → ⊥ = λ z. omega arith in
-          let w = N i l .1 .1 .1 .1 .1 .0 (g .1 .0) n in
+          let w = N i l .policy (g .1 .0) n in
           let k = w .0 .0 in
           (n, unique x (getD rs (over i) []) mx (mem (over i) (omega arith)) (omega arith, omega arith) (omega arith, omega arith) (sym e ∙ sym (w .0 .1 .0)))
 
       of-policy : (x : Rec) → List·Memᴰ x rs → Fact (governs x (getD rs i [])) → Related x (getD rs i [])
       of-policy x mx g =
           let p = by-policy x mx g in
-          related-of x _ (subst (λ z. Fact (related z (getD rs i []))) (sym (p .1)) (N i l .1 .1 .1 .1 .1 .0 (g .1 .0) (p .0) .1 .0))
+          related-of x _ (subst (λ z. Fact (related z (getD rs i []))) (sym (p .1)) (N i l .policy (g .1 .0) (p .0) .1 .0))
 
       -- the target's session and the target.
       of-target-session : (x : Rec) → List·Memᴰ x rs → kind x ≡ SESSION → kind (getD rs i []) ≡ PENDING → (parent (getD rs i []) ≡ 0 → ⊥) → own x ≡ sessionOf (parent (getD rs i [])) → Related x (getD rs i [])
       of-target-session x mx kx ky n e =
-          let w = N i l .1 .1 .1 .1 .1 .1 ky n .1 .1 in
+          let w = N i l .target ky n .1 .1 in
           let k = w .0 .0 in
           let q = unique x (getD rs (up (over i)) []) mx (mem (up (over i)) (omega arith)) (omega arith, omega arith) (omega arith, omega arith) (e ∙ sym (w .0 .1 .0)) in
           related-of x _ (subst (λ z. Fact (related z (getD rs i []))) (sym q) (w .1))
@@ -94,7 +110,7 @@ module _ (rs : List Rec) (A : (r : Rec) → List·Memᴰ r rs → Alone r) (D : 
       of-target : (x : Rec) → List·Memᴰ x rs → kind x ≡ KEY → kind (getD rs i []) ≡ PENDING → parent (getD rs i []) ≡ own x → Related x (getD rs i [])
       of-target x mx kx ky e =
           let h = handled x mx (omega arith, omega arith) in
-          let w = N i l .1 .1 .1 .1 .1 .1 ky (λ z. omega arith) in
+          let w = N i l .target ky (λ z. omega arith) in
           let k = w .0 .0 in
           let q = unique x (getD rs (over i) []) mx (mem (over i) (omega arith)) (omega arith, omega arith) (omega arith, omega arith) (sym e ∙ sym (w .0 .1 .0)) in
           related-of x _ (subst (λ z. Fact (related z (getD rs i []))) (sym q) (w .1 .0))
@@ -115,18 +131,18 @@ module _ (rs : List Rec) (A : (r : Rec) → List·Memᴰ r rs → Alone r) (D : 
       housed-here : Housed rs (getD rs i [])
       housed-here =
           record {
-            sessionThere = λ o. let w = N i l .1 .0 o .0 in let k = w .0 in (getD rs (up i) [], mem (up i) (omega arith), w);
-            pukThere = λ k n. let w = N i l .1 .1 .1 .1 .0 k n in let j = w .0 in (getD rs (over i) [], mem (over i) (omega arith), w);
-            policyThere = λ k n. let w = N i l .1 .1 .1 .1 .1 .0 k n .0 in let j = w .0 in (getD rs (over i) [], mem (over i) (omega arith), w);
-            keyThere = λ c. let w = N i l .0 (c .0) .1 .1 c in let j = w .0 in (getD rs (under i) [], mem (under i) (omega arith), w);
-            targetThere = λ k n. let w = N i l .1 .1 .1 .1 .1 .1 k n .0 in let j = w .0 in (getD rs (over i) [], mem (over i) (omega arith), w);
+            sessionThere = λ o. let w = N i l .home o .0 in let k = w .0 in (getD rs (up i) [], mem (up i) (omega arith), w);
+            pukThere = λ k n. let w = N i l .puk k n in let j = w .0 in (getD rs (over i) [], mem (over i) (omega arith), w);
+            policyThere = λ k n. let w = N i l .policy k n .0 in let j = w .0 in (getD rs (over i) [], mem (over i) (omega arith), w);
+            keyThere = λ c. let w = N i l .session (c .0) .1 .1 c in let j = w .0 in (getD rs (under i) [], mem (under i) (omega arith), w);
+            targetThere = λ k n. let w = N i l .target k n .0 in let j = w .0 in (getD rs (over i) [], mem (over i) (omega arith), w);
           }
 
       used-here : (x : Rec) → List·Memᴰ x rs → Used rs x (getD rs i [])
       used-here x mx =
           record {
-            puk = λ c e k. let w = N i l .1 .1 .0 k (shut c e (omega arith, omega arith)) in let j = w .0 in (getD rs (under i) [], mem (under i) (omega arith), w);
-            policy = λ c e k. let w = N i l .1 .1 .1 .0 k (shut c e (omega arith, omega arith)) in let j = w .0 in (getD rs (under i) [], mem (under i) (omega arith), w);
+            puk = λ c e k. let w = N i l .policyUnder k (shut c e (omega arith, omega arith)) in let j = w .0 in (getD rs (under i) [], mem (under i) (omega arith), w);
+            policy = λ c e k. let w = N i l .keyUnder k (shut c e (omega arith, omega arith)) in let j = w .0 in (getD rs (under i) [], mem (under i) (omega arith), w);
           }
         where
           shut : Fact (closed x) → session (getD rs i []) ≡ own x → Fact (isObject (getD rs i [])) → Fact (closed (getD rs (up i) []))
@@ -137,8 +153,8 @@ module _ (rs : List Rec) (A : (r : Rec) → List·Memᴰ r rs → Alone r) (D : 
     shares-here i j li lj p mp kp gp gi gj =
         let a = by-policy i li p mp gi in
         let b = by-policy j lj p mp gj in
-        let wi = N i li .1 .1 .1 .1 .1 .0 (gi .1 .0) (a .0) in
-        let wj = N j lj .1 .1 .1 .1 .1 .0 (gj .1 .0) (b .0) in
+        let wi = N i li .policy (gi .1 .0) (a .0) in
+        let wj = N j lj .policy (gj .1 .0) (b .0) in
         let ki = wi .0 .0 in
         let kj = wj .0 .0 in
         let here : over i ≡ over j = one-place (over i) (over j) (there-at rs (over i) (omega arith)) (there-at rs (over j) (omega arith)) (omega arith, omega arith) (omega arith, omega arith) (ap own (sym (a .1) ∙ b .1)) in

@@ -11,10 +11,13 @@ use Prim.Native.Nat.{ℕ, _<_}
 use mathlib.Core.List.{List, []}
 use lib.ListN.{length, getD}
 
--- the session y stands below the counter c and, if it is closed, has the key k
+-- the session y, if it is closed, has the key k
+abbrev pub keyNear : Rec → Rec → Form
+keyNear k y = closed y then kind k == KEY and session k == own y
+
+-- the session y stands below the counter c
 abbrev pub sessionNear : Rec → Rec → Rec → Form
-sessionNear c k y =
-    kind y == SESSION then kind c == COUNTER and related c y and (closed y then kind k == KEY and session k == own y)
+sessionNear c k y = kind y == SESSION then kind c == COUNTER and related c y and keyNear k y
 
 -- the object y is of the session x
 abbrev pub objectNear : Rec → Rec → Form
@@ -29,11 +32,13 @@ childNear x k y sort below =
 abbrev pub pukNear : Rec → Rec → Form
 pukNear p y = kind y == POLICY then no (parentless y) then is PUK (parent y) (session y) p
 
--- the key y has no policy, or it is p, and if that is a shared one, y has the PIN of q
+-- if the policy p is a shared one, the key y has the PIN of q
+abbrev pub pinNear : Rec → Rec → Rec → Form
+pinNear p q y = grouping p == 1 then say (same (part 49 pinWidth q) (part 49 pinWidth y))
+
+-- the key y has no policy, or it is p
 abbrev pub policyNear : Rec → Rec → Rec → Form
-policyNear p q y =
-    kind y == KEY then no (parentless y) then
-    is POLICY (parent y) (session y) p and related p y and (grouping p == 1 then say (same (part 49 pinWidth q) (part 49 pinWidth y)))
+policyNear p q y = kind y == KEY then no (parentless y) then is POLICY (parent y) (session y) p and related p y and pinNear p q y
 
 -- the pending y has no target, or it is p, of the session t
 abbrev pub targetNear : Rec → Rec → Rec → Form

@@ -1,3 +1,4 @@
-pub mod Told
+pub mod Agreeing
+pub mod Along
 pub mod Showing
 pub mod Plain

@@ -1,8 +1,17 @@
 // Whether a store is sound: the paper's clauses over all records and all pairs of records, for a slice of any length.
+use paper::COUNTER;
+use paper::FEWEST_RECORDS;
+use paper::HANDLE_STEP;
+use paper::HOME;
+use paper::KEY;
+use paper::KIND;
+use paper::MOST_RECORDS;
+use paper::OWN;
+use paper::PARENT;
+use paper::POLICY;
+use paper::RECORD_BYTES;
 use sound_alone::is_alone;
-use sound_kin::is_housed;
-use sound_kin::pins_shared;
-use sound_kin::policies_used;
+use sound_kin::is_settled;
 use sound_pairs::are_distinct;
 use sound_pairs::is_concerned;
 use sound_pairs::is_related;
@@ -19,24 +28,27 @@ ghost use mathlib.Core.Path.{_≡_};
 ghost use mathlib.Core.Bool.{true};
 ghost use Prim.Native.Nat.{_/_, _≤_, _<_};
 ghost use lib.ListN.{length, drop};
-ghost use Rattle.paper.specs.Form.{test, every, each, apart};
+ghost use Rattle.paper.specs.Limits.{recordBytes, mostRecords};
+ghost use Rattle.paper.specs.Form.{test, every, each};
 ghost use Rattle.paper.specs.Records.{records};
-ghost use Rattle.paper.specs.Sound.{lengthFits, alone as aloneForm, distinct, related, housed, policiesUsed, pinsShared, sound};
+ghost use Rattle.paper.specs.Sound.{lengthFits, alone, distinct, related, sound};
 ghost use Rattle.sound_quick.specs.Marks.{marksDiffer};
-ghost use Rattle.sound_store.specs.Whole.{agreeing};
+ghost use Rattle.sound_kin.specs.Settled.{settled};
+ghost use Rattle.sound_store.specs.Whole.{paired, agreeing};
+ghost use Rattle.sound_store.specs.Guesses.{slotOf, noted, along, bySlot, placeOf, seatOf, byField, byChild};
 ghost use Rattle.sound_store.specs.Shown.{sitedAt, Shown};
 
 pub fn length_fits(s: &[u8]) -> bool
     ensures { λ b. ⌜ b ≡ lengthFits (now (s .entry)) ⌝ }
 {
-    let n = s.len() / 256;
-    (s.len() % 256 == 0) & ((2 <= n) & (n <= 256))
+    let n = s.len() / RECORD_BYTES;
+    (s.len() % RECORD_BYTES == 0) & ((FEWEST_RECORDS <= n) & (n <= MOST_RECORDS))
 }
 
 fn all_alone(s: &[u8]) -> bool
-    ensures { λ b. ⌜ b ≡ test (each (records (now (s .entry))) aloneForm) ⌝ }
+    ensures { λ b. ⌜ b ≡ test (each (records (now (s .entry))) alone) ⌝ }
 {
-    let n = s.len() / 256;
+    let n = s.len() / RECORD_BYTES;
     let mut i: usize = 0;
     while i < n {
         if !is_alone(record_at(s, i)) {
@@ -51,7 +63,7 @@ fn all_alone(s: &[u8]) -> bool
 fn distinct_from(s: &[u8], from: usize, x: &[u8]) -> bool
     ensures { λ b. ⌜ b ≡ every (λ y. test (distinct (now (x .entry)) y)) (drop from (records (now (s .entry)))) ⌝ }
 {
-    let n = s.len() / 256;
+    let n = s.len() / RECORD_BYTES;
     let mut i = from;
     while i < n {
         if !are_distinct(x, record_at(s, i)) {
@@ -62,24 +74,11 @@ fn distinct_from(s: &[u8], from: usize, x: &[u8]) -> bool
     true
 }
 
-fn all_distinct(s: &[u8]) -> bool
-    ensures { λ b. ⌜ b ≡ test (apart (records (now (s .entry))) distinct) ⌝ }
-{
-    let n = s.len() / 256;
-    let mut i: usize = 0;
-    while i < n {
-        if !distinct_from(s, i + 1, record_at(s, i)) {
-            return false;
-        }
-        i += 1;
-    }
-    true
-}
-
+// x and each record.
 fn related_each(s: &[u8], x: &[u8]) -> bool
     ensures { λ b. ⌜ b ≡ test (each (records (now (s .entry))) (related (now (x .entry)))) ⌝ }
 {
-    let n = s.len() / 256;
+    let n = s.len() / RECORD_BYTES;
     let mut i: usize = 0;
     while i < n {
         if !is_related(x, record_at(s, i)) {
@@ -100,13 +99,18 @@ fn related_to(s: &[u8], x: &[u8]) -> bool
     related_each(s, x)
 }
 
-fn all_related(s: &[u8]) -> bool
-    ensures { λ b. ⌜ b ≡ test (each (records (now (s .entry))) (λ x. each (records (now (s .entry))) (related x))) ⌝ }
+// The clauses of two records: of each record with those behind it, and with all.
+fn all_paired(s: &[u8]) -> bool
+    ensures { λ b. ⌜ b ≡ test (paired (records (now (s .entry)))) ⌝ }
 {
-    let n = s.len() / 256;
+    let n = s.len() / RECORD_BYTES;
     let mut i: usize = 0;
     while i < n {
-        if !related_to(s, record_at(s, i)) {
+        let x = record_at(s, i);
+        if !distinct_from(s, i + 1, x) {
+            return false;
+        }
+        if !related_to(s, x) {
             return false;
         }
         i += 1;
@@ -114,13 +118,14 @@ fn all_related(s: &[u8]) -> bool
     true
 }
 
-fn all_housed(s: &[u8]) -> bool
-    ensures { λ b. ⌜ b ≡ test (each (records (now (s .entry))) (housed (records (now (s .entry))))) ⌝ }
+// The clauses of what must be there.
+fn all_settled(s: &[u8]) -> bool
+    ensures { λ b. ⌜ b ≡ test (each (records (now (s .entry))) (settled (records (now (s .entry))))) ⌝ }
 {
-    let n = s.len() / 256;
+    let n = s.len() / RECORD_BYTES;
     let mut i: usize = 0;
     while i < n {
-        if !is_housed(s, record_at(s, i)) {
+        if !is_settled(s, record_at(s, i)) {
             return false;
         }
         i += 1;
@@ -128,86 +133,61 @@ fn all_housed(s: &[u8]) -> bool
     true
 }
 
-fn all_used(s: &[u8]) -> bool
-    ensures { λ b. ⌜ b ≡ test (each (records (now (s .entry))) (λ x. each (records (now (s .entry))) (policiesUsed (records (now (s .entry))) x))) ⌝ }
-{
-    let n = s.len() / 256;
-    let mut i: usize = 0;
-    while i < n {
-        if !policies_used(s, record_at(s, i)) {
-            return false;
-        }
-        i += 1;
-    }
-    true
-}
-
-fn all_shared(s: &[u8]) -> bool
-    ensures { λ b. ⌜ b ≡ test (each (records (now (s .entry))) (pinsShared (records (now (s .entry))))) ⌝ }
-{
-    let n = s.len() / 256;
-    let mut i: usize = 0;
-    while i < n {
-        if !pins_shared(s, record_at(s, i)) {
-            return false;
-        }
-        i += 1;
-    }
-    true
-}
-
-// The clauses of two records and of what must be there.
+// The clauses of more than one record.
 fn agree(s: &[u8]) -> bool
     ensures { λ b. ⌜ b ≡ test (agreeing (records (now (s .entry)))) ⌝ }
 {
-    if !all_distinct(s) {
+    if !all_paired(s) {
         return false;
     }
-    if !all_related(s) {
-        return false;
-    }
-    all_housed(s) & (all_used(s) & all_shared(s))
+    all_settled(s)
 }
 
 // ---- the quick way: neighbours by their places
 
 // A session's handle is its number times 65,536, an object's number is added. Handles of one store seldom meet in one slot.
+const SLOTS: u32 = 1024;
+
+const SPREAD: u32 = 37;
+
 fn slot(h: u32) -> usize
-    ensures { λ r. ⌜ r ≤ 1023 ⌝ }
+    ensures { λ r. ⌜ r ≡ slotOf h ⌝ }
 {
-    ((h / 65536 * 37 + h % 65536) % 1024) as usize
+    ((h / HANDLE_STEP * SPREAD + h % HANDLE_STEP) % SLOTS) as usize
 }
 
 // Notes a place, if there is one to be noted.
-fn note(p: &mut [u8], at: usize, i: usize, is_meant: bool)
+fn note(p: &mut [u8], at: usize, i: usize, meant: bool)
     requires { ⌜ (at < length (now p)) × (i ≤ 255) ⌝ }
+    ensures { λ _. ⌜ now (p .exit) ≡ noted (now (p .entry)) at i meant ⌝ }
 {
-    if is_meant {
+    if meant {
         p[at] = i as u8;
     }
 }
 
 // For each slot the place of a record whose handle has it. Whoever reads it asks whether it is the right one.
 fn seats(s: &[u8], t: &mut [u8])
-    requires { ⌜ (length (now s) / 256 ≤ 256) × (length (now t) ≡ 1024) ⌝ }
+    requires { ⌜ (length (now s) / recordBytes ≤ mostRecords) × (length (now t) ≡ 1024) ⌝ }
+    ensures { λ _. ⌜ now (t .exit) ≡ along bySlot 0 (records (now (s .entry))) (now (t .entry)) ⌝ }
 {
-    let n = s.len() / 256;
+    let n = s.len() / RECORD_BYTES;
     let mut i: usize = 0;
     while i < n {
-        note(t, slot(four_at(record_at(s, i), 4)), i, true);
+        note(t, slot(four_at(record_at(s, i), OWN)), i, true);
         i += 1;
     }
 }
 
 // The place of a record with this handle, from the first record on.
 fn sought(s: &[u8], h: u32) -> usize
-    requires { ⌜ length (now s) / 256 ≤ 256 ⌝ }
-    ensures { λ r. ⌜ r ≤ 255 ⌝ }
+    requires { ⌜ length (now s) / recordBytes ≤ mostRecords ⌝ }
+    ensures { λ r. ⌜ (r ≡ placeOf h (records (now (s .entry)))) × (r ≤ 255) ⌝ }
 {
-    let n = s.len() / 256;
+    let n = s.len() / RECORD_BYTES;
     let mut i: usize = 0;
     while i < n {
-        if four_at(record_at(s, i), 4) == h {
+        if four_at(record_at(s, i), OWN) == h {
             return i;
         }
         i += 1;
@@ -216,14 +196,14 @@ fn sought(s: &[u8], h: u32) -> usize
 }
 
 fn seat(s: &[u8], t: &[u8], h: u32) -> usize
-    requires { ⌜ length (now s) / 256 ≤ 256 ⌝ }
-    ensures { λ r. ⌜ r ≤ 255 ⌝ }
+    requires { ⌜ length (now s) / recordBytes ≤ mostRecords ⌝ }
+    ensures { λ r. ⌜ (r ≡ seatOf (records (now (s .entry))) (now (t .entry)) h) × (r ≤ 255) ⌝ }
 {
     if h == 0 {
         return 0;
     }
     let p = size_at(t, slot(h));
-    if four_at(record_at(s, p), 4) == h {
+    if four_at(record_at(s, p), OWN) == h {
         return p;
     }
     sought(s, h)
@@ -231,9 +211,10 @@ fn seat(s: &[u8], t: &[u8], h: u32) -> usize
 
 // For each record the place of the one whose handle it has in a field.
 fn above(s: &[u8], t: &[u8], field: usize, p: &mut [u8])
-    requires { ⌜ (length (now s) / 256 ≤ 256) × (length (now p) ≡ 256) ⌝ }
+    requires { ⌜ (length (now s) / recordBytes ≤ mostRecords) × (length (now p) ≡ 256) ⌝ }
+    ensures { λ _. ⌜ now (p .exit) ≡ along (byField (records (now (s .entry))) (now (t .entry)) field) 0 (records (now (s .entry))) (now (p .entry)) ⌝ }
 {
-    let n = s.len() / 256;
+    let n = s.len() / RECORD_BYTES;
     let mut i: usize = 0;
     while i < n {
         note(p, i, seat(s, t, four_at(record_at(s, i), field)), true);
@@ -243,19 +224,20 @@ fn above(s: &[u8], t: &[u8], field: usize, p: &mut [u8])
 
 // For each session the place of a key, for each PUK that of a PIN policy, for each PIN policy that of a key.
 fn below(s: &[u8], up: &[u8], over: &[u8], p: &mut [u8])
-    requires { ⌜ (length (now s) / 256 ≤ 256) × (length (now p) ≡ 256) ⌝ }
+    requires { ⌜ (length (now s) / recordBytes ≤ mostRecords) × (length (now p) ≡ 256) ⌝ }
+    ensures { λ _. ⌜ now (p .exit) ≡ along (byChild (now (up .entry)) (now (over .entry))) 0 (records (now (s .entry))) (now (p .entry)) ⌝ }
 {
-    let n = s.len() / 256;
+    let n = s.len() / RECORD_BYTES;
     let mut i: usize = 0;
     while i < n {
         let r = record_at(s, i);
-        let k = byte_at(r, 0);
-        note(p, size_at(up, i), i, k == 4);
+        let k = byte_at(r, KIND);
+        note(p, size_at(up, i), i, k == KEY);
         note(
             p,
             size_at(over, i),
             i,
-            ((k == 3) | (k == 4)) & (four_at(r, 12) != 0),
+            ((k == POLICY) | (k == KEY)) & (four_at(r, PARENT) != 0),
         );
         i += 1;
     }
@@ -283,7 +265,7 @@ fn is_sited_at(s: &[u8], m: usize, up: &[u8], over: &[u8], under: &[u8], i: usiz
 fn all_sited(s: &[u8], m: usize, up: &[u8], over: &[u8], under: &[u8]) -> bool
     ensures { λ b. ⌜ (b ≡ true → Shown (records (now (s .entry)))) ⌝ }
 {
-    let n = s.len() / 256;
+    let n = s.len() / RECORD_BYTES;
     let mut i: usize = 0;
     while i < n {
         if !is_sited_at(s, m, up, over, under, i) {
@@ -295,23 +277,23 @@ fn all_sited(s: &[u8], m: usize, up: &[u8], over: &[u8], under: &[u8]) -> bool
 }
 
 fn is_sited(s: &[u8]) -> bool
-    requires { ⌜ length (now s) / 256 ≤ 256 ⌝ }
+    requires { ⌜ length (now s) / recordBytes ≤ mostRecords ⌝ }
     ensures { λ b. ⌜ (b ≡ true → Shown (records (now (s .entry)))) ⌝ }
 {
     let mut t = [0u8; 1024];
     seats(s, &mut t);
     let mut up = [0u8; 256];
-    above(s, &t, 8, &mut up);
+    above(s, &t, HOME, &mut up);
     let mut over = [0u8; 256];
-    above(s, &t, 12, &mut over);
+    above(s, &t, PARENT, &mut over);
     let mut under = [0u8; 256];
     below(s, &up, &over, &mut under);
-    all_sited(s, find(s, Choice::Kind(6)), &up, &over, &under)
+    all_sited(s, find(s, Choice::Kind(COUNTER)), &up, &over, &under)
 }
 
 // Whether it is seen at once that the clauses of more than one record hold. A no says nothing.
 fn is_plain(s: &[u8]) -> bool
-    requires { ⌜ length (now s) / 256 ≤ 256 ⌝ }
+    requires { ⌜ length (now s) / recordBytes ≤ mostRecords ⌝ }
     ensures { λ b. ⌜ (b ≡ true → (marksDiffer (records (now (s .entry))) ≡ true) × Shown (records (now (s .entry)))) ⌝ }
 {
     if !marks_differ(s) {
@@ -326,7 +308,7 @@ pub fn is_sound(s: &[u8]) -> bool
     if !length_fits(s) {
         return false;
     }
-    if !has(s, Choice::Kind(6)) {
+    if !has(s, Choice::Kind(COUNTER)) {
         return false;
     }
     if !all_alone(s) {

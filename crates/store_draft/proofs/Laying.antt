@@ -1,11 +1,11 @@
 -- Laws of drafts: a byte more, fields one after another, and a record of 256 bytes, which is laid as it is.
 use mathlib.Core.Path.{_≡_, refl, sym, ap, _∙_, subst}
 use mathlib.Core.List.{List, [], _∷_, _++_, append-assoc, append-nil}
-use Prim.Native.Nat.{ℕ, zero, suc, _+_, _-_, _≤_, _<_}
+use Prim.Native.Nat.{ℕ, suc, _+_, _-_, _≤_, _<_}
 use native.Mathlib.Omega.{arith}
 use native.Mathlib.Nat.{add-zero}
 use native.Mathlib.Numerals.{add-one}
-use lib.ListN.{length, getD, set, take, drop, length-append, length-replicate, take-append-drop, replicate-append-replicate}
+use lib.ListN.{length, getD, set, take, drop, length-append, length-take, length-replicate, take-append-drop, replicate-append-replicate}
 use lib.Seq.{take-all, length-take-le, take-append-le, take-suc, set-at, append-snoc}
 use Rattle.paper.specs.Bytes.{zerosOf, enc4}
 use Rattle.paper.specs.Form.{_=<_}
@@ -46,58 +46,52 @@ module _ (w : List ℕ) (v : ℕ) where
       rw (laid-short w (omega arith), laid-short (w ++ (v ∷ [])) (omega (arith, longer)), zeros-next (length w) h, longer)
       (set-at w 0 (zerosOf (256 - (length w + 1))) v (length w) refl ∙ sym (append-snoc w v (zerosOf (256 - (length w + 1)))))
 
-  -- a byte more, or none where there is no room
-  module _ (d : Draft) (h : Drafts d w) where
-    room : d .at < 256 → length w < 256
-    room l = cases (suc (length w) =< 256) (λ p. p) (λ p. absurd (let e = h .full (omega arith) in omega arith))
+-- where the next byte goes, so that omega reads it
+size-laid : (w : List ℕ) → length (take 256 w) ≡ 256 - (256 - length w)
+size-laid w = simp length-take (omega arith)
 
-    pub byte-fits : d .at < 256 → Drafts (record { bytes = set (d .bytes) (d .at) v; at = d .at + 1 }) (w ++ (v ∷ []))
-    byte-fits l =
-        let a = h .next (room l) in
-        record {
-          bytes = rw (a, h .bytes) (laid-more (room l));
-          next = λ p. a' a;
-          full = λ p. let r = room l in omega (arith, longer);
-        }
-      where
-        a' : d .at ≡ length w → d .at + 1 ≡ length (w ++ (v ∷ []))
-        a' e = omega (arith, longer)
+pub place-of : {d : Draft} {w : List ℕ} → Drafts d w → d .at ≡ 256 - (256 - length w)
+place-of {d} {w} h = h .next ∙ size-laid w
 
-    pub byte-full : 256 ≤ d .at → Drafts d (w ++ (v ∷ []))
-    byte-full l =
-        record {
-          bytes = h .bytes ∙ sym (laid-long w (v ∷ []) long);
-          next = λ p. absurd (let q = long in omega (arith, longer));
-          full = λ p. h .full long;
-        }
-      where
-        long : 256 ≤ length w
-        long = cases (256 =< length w) (λ p. p) (λ p. absurd (let e = h .next (omega arith) in omega arith))
-
--- what comes once there is no room is left out
-pub past : (d : Draft) (w x : List ℕ) → Drafts d w → 256 ≤ length w → Drafts d (w ++ x)
-past d w x h l =
+pub byte-fits : (w : List ℕ) (v : ℕ) (d : Draft) → Drafts d w → d .at < 256 → Drafts (record { bytes = set (d .bytes) (d .at) v; at = d .at + 1 }) (w ++ (v ∷ []))
+byte-fits w v d h l =
+    let a : d .at ≡ length w = omega (arith, place-of h) in
+    let e : d .at + 1 ≡ 256 - (256 - length (w ++ (v ∷ []))) = omega (arith, place-of h, longer w v) in
     record {
-      bytes = h .bytes ∙ sym (laid-long w x l);
-      next = λ p. absurd (omega (arith, length-append w x));
-      full = λ p. h .full l;
+      bytes = rw (a, h .bytes) (laid-more w v (omega arith));
+      next = e ∙ sym (size-laid (w ++ (v ∷ [])));
     }
 
--- a draft whose next place is past the end is full
-pub at-end : (d : Draft) (w : List ℕ) → Drafts d w → 256 ≤ d .at → 256 ≤ length w
-at-end d w h l = cases (256 =< length w) (λ p. p) (λ p. absurd (let e = h .next (omega arith) in omega arith))
-
-pub with-room : (d : Draft) (w : List ℕ) → Drafts d w → d .at < 256 → d .at ≡ length w
-with-room d w h l = h .next (cases (suc (length w) =< 256) (λ p. p) (λ p. absurd (let e = h .full (omega arith) in omega arith)))
+-- what comes once there is no room is left out
+pub past : (d : Draft) (w x : List ℕ) → Drafts d w → 256 ≤ d .at → Drafts d (w ++ x)
+past d w x h l =
+    let b : 256 ≤ length w = omega (arith, place-of h) in
+    record {
+      bytes = h .bytes ∙ sym (laid-long w x b);
+      next = h .next ∙ ap length (sym (take-append-le 256 w x b));
+    }
 
 -- as many bytes as there is room for, and the others
-pub filled : (d r : Draft) (w v : List ℕ) → Drafts d w → d .at < 256 → 256 - d .at < length v → Drafts r (w ++ take (256 - d .at) v) → Drafts r (w ++ v)
-filled d r w v k l n h =
-    let m : ℕ = 256 - d .at in
-    let a = with-room d w k l in
-    let e : length (w ++ take m v) ≡ length w + m = length-append w (take m v) ∙ ap (λ (j : ℕ). length w + j) (length-take-le m v (omega arith)) in
-    let s : length w + m ≡ 256 = omega (arith, a) in
-    rw (← take-append-drop m v, ← append-assoc) (past r (w ++ take m v) (drop m v) h (omega (arith, e, s)))
+cut-full : (x w n v : ℕ) → x ≡ 256 - (256 - w) → n ≡ v - (v - (256 - x)) → n < v → 256 ≤ w + n
+cut-full x w n v p q h = omega arith
+
+more-than : (n v : ℕ) → (v ≤ n → ⊥) → n < v
+more-than n v h = omega arith
+
+up-to : (n v : ℕ) → n < v → n ≤ v
+up-to n v h = omega arith
+
+at-full : (x w : ℕ) → x ≡ 256 - (256 - w) → 256 ≤ w → 256 ≤ x
+at-full x w p h = omega arith
+
+pub filled : (d r : Draft) (w v : List ℕ) (n : ℕ) → Drafts d w → n ≡ length v - (length v - (256 - d .at)) → Drafts r (w ++ take n v) → Drafts r (w ++ v)
+filled d r w v n k q h = cases (length v =< n) (λ l. let z : take n v ≡ v = take-all n v l in rw z at h) (λ l. cut (more-than n (length v) l))
+  where
+    cut : n < length v → Drafts r (w ++ v)
+    cut m =
+        let e : length (w ++ take n v) ≡ length w + n = length-append w (take n v) ∙ ap (λ (j : ℕ). length w + j) (length-take-le n v (up-to n (length v) m)) in
+        let g : 256 ≤ length (w ++ take n v) = rw e (cut-full (d .at) (length w) n (length v) (place-of k) q m) in
+        rw (← take-append-drop n v, ← append-assoc) (past r (w ++ take n v) (drop n v) h (at-full (r .at) _ (place-of h) g))
 
 -- zeros stand there already
 zeros-in : (w : List ℕ) (n : ℕ) → length w + n ≤ 256 → laid (w ++ zerosOf n) ≡ laid w
@@ -118,14 +112,13 @@ laid-blank w n = cases (256 =< length w) (λ l. laid-long w (zerosOf n) l) (λ l
         let g : w ++ zerosOf n ≡ (w ++ zerosOf m) ++ zerosOf (n - m) = ap (λ (z : List ℕ). w ++ z) (ap zerosOf (sym f) ∙ sym (replicate-append-replicate {A = ℕ} m (n - m) 0)) ∙ sym (append-assoc w (zerosOf m) (zerosOf (n - m))) in
         ap laid g ∙ laid-long (w ++ zerosOf m) (zerosOf (n - m)) (omega (arith, e)) ∙ zeros-in w m (omega arith)
 
-pub zeros-more : (d : Draft) (w : List ℕ) (n : ℕ) → Drafts d w → d .at < 256 → Drafts (record { bytes = d .bytes; at = d .at + n }) (w ++ zerosOf n)
-zeros-more d w n h l =
-    let a = with-room d w h l in
+pub zeros-more : (d : Draft) (w : List ℕ) (n p : ℕ) → Drafts d w → p ≡ 256 - (256 - (d .at + n)) → Drafts (record { bytes = d .bytes; at = p }) (w ++ zerosOf n)
+zeros-more d w n p h q =
     let e : length (w ++ zerosOf n) ≡ length w + n = length-append w (zerosOf n) ∙ ap (λ (j : ℕ). length w + j) (length-replicate {A = ℕ} n 0) in
+    let f : p ≡ 256 - (256 - length (w ++ zerosOf n)) = omega (arith, place-of h) in
     record {
       bytes = h .bytes ∙ sym (laid-blank w n);
-      next = λ p. omega (arith, a, e);
-      full = λ p. omega (arith, a, e);
+      next = f ∙ sym (size-laid (w ++ zerosOf n));
     }
 
 -- how what was written grows

@@ -1,9 +1,11 @@
 // A record drafted field by field, in the order of its layout: start, add fields, finish. The draft goes in and comes back by value.
 // What would pass byte 256 is left out, and what is not written is zero, so nothing is asked of a field's length.
+use paper::RECORD_BYTES;
 ghost use mathlib.Core.Path.{_≡_};
 ghost use mathlib.Core.List.{List, [], _∷_, _++_};
 ghost use Prim.Native.Nat.{ℕ, _+_, _-_, _≤_};
 ghost use lib.ListN.{length, take};
+ghost use Rattle.paper.specs.Limits.{recordBytes};
 ghost use Rattle.paper.specs.Bytes.{enc2, enc4, zerosOf, paddedText as paddedTo};
 ghost use Rattle.paper.specs.Act.{flat};
 ghost use Rattle.store_draft.specs.Drafts.{Drafts, laid};
@@ -28,16 +30,14 @@ pub fn start() -> Draft
 pub fn byte(d: Draft, v: u8) -> Draft
     ensures { λ r. ⌜ ((w : List ℕ) → Drafts d w → Drafts r (w ++ (v ∷ []))) ⌝ }
 {
-    let mut b = d.bytes;
+    let mut r = d;
     let at = d.at;
-    if 256 <= at {
-        return d;
+    if RECORD_BYTES <= at {
+        return r;
     }
-    b[at] = v;
-    Draft {
-        bytes: b,
-        at: at + 1,
-    }
+    r.bytes[at] = v;
+    r.at = at + 1;
+    r
 }
 
 // The low two bytes of a number, and the low four.
@@ -58,49 +58,62 @@ pub fn four(d: Draft, n: u64) -> Draft
 
 // The first m bytes of a slice, written in place. A draft is large: byte after byte by value would copy it each time.
 fn bytes_in(d: Draft, v: &[u8], m: usize) -> Draft
-    requires { ⌜ (d .at + m ≤ 256) × (m ≤ length (now v)) ⌝ }
+    requires { ⌜ (m ≤ recordBytes - d .at) × (m ≤ length (now v)) ⌝ }
     ensures { λ r. ⌜ ((w : List ℕ) → Drafts d w → Drafts r (w ++ take m (now (v .entry)))) ⌝ }
 {
-    let mut b = d.bytes;
+    let mut r = d;
     let at = d.at;
     let mut i: usize = 0;
     while i < m {
-        b[at + i] = v[i];
+        r.bytes[at + i] = v[i];
         i += 1;
     }
-    Draft {
-        bytes: b,
-        at: at + m,
+    r.at = at + m;
+    r
+}
+
+// How many of n bytes there is room for.
+fn room(at: usize, n: usize) -> usize
+    ensures { λ r. ⌜ r ≡ n - (n - (recordBytes - at)) ⌝ }
+{
+    if RECORD_BYTES <= at {
+        return 0;
     }
+    let most = RECORD_BYTES - at;
+    if n < most {
+        return n;
+    }
+    most
 }
 
 // The bytes of a slice, or as many as there is room for.
 pub fn bytes(d: Draft, v: &[u8]) -> Draft
     ensures { λ r. ⌜ ((w : List ℕ) → Drafts d w → Drafts r (w ++ now (v .entry))) ⌝ }
 {
-    let at = d.at;
-    if 256 <= at {
-        return d;
+    bytes_in(d, v, room(d.at, v.len()))
+}
+
+// The place so many bytes on, at most that behind the record.
+fn place(at: usize, n: u8) -> usize
+    ensures { λ r. ⌜ r ≡ recordBytes - (recordBytes - (at + n)) ⌝ }
+{
+    let most = n as usize;
+    if RECORD_BYTES <= at {
+        return RECORD_BYTES;
     }
-    if v.len() <= 256 - at {
-        return bytes_in(d, v, v.len());
+    if RECORD_BYTES - at < most {
+        return RECORD_BYTES;
     }
-    bytes_in(d, v, 256 - at)
+    at + most
 }
 
 // So many zeros, which stand there already.
 pub fn zeros(d: Draft, n: u8) -> Draft
     ensures { λ r. ⌜ ((w : List ℕ) → Drafts d w → Drafts r (w ++ zerosOf n)) ⌝ }
 {
-    let b = d.bytes;
-    let at = d.at;
-    if 256 <= at {
-        return d;
-    }
-    Draft {
-        bytes: b,
-        at: at + (n as usize),
-    }
+    let mut e = d;
+    e.at = place(d.at, n);
+    e
 }
 
 // How many zeros stand behind n bytes in a field of so many.

@@ -4,10 +4,11 @@ use mathlib.Core.Path.{_≡_, refl, sym, ap, _∙_}
 use mathlib.Core.List.{List, [], _∷_, _++_, append-assoc, append-nil}
 use Prim.Native.Nat.{ℕ, zero, suc, _+_, _*_, _-_, _/_, _≤_, _<_}
 use native.Mathlib.Nat.{not-suc-le-zero, le-of-suc-le-suc}
+use native.Mathlib.Numerals.{add-one}
 use native.Mathlib.Omega.{arith}
 use borrow.Rule.Slice.PartMut.{putMid}
 use lib.ListN.{length, getD, take, drop, set, length-append, length-take, length-drop, List·getD-eq-default}
-use lib.Seq.{drop-drop, take-add, take-at, drop-at, drop-append-add, length-take-le, take-length, set-out, set-getD}
+use lib.Seq.{drop-drop, take-add, take-at, drop-at, drop-append-add, length-take-le, take-length, take-all, take-suc-set, set-out, set-getD}
 use Rattle.paper.specs.Bytes.{zerosOf}
 use Rattle.paper.specs.Form.{Rec, Form, test, only}
 use Rattle.paper.specs.Records.{recordsOf, records, zeros}
@@ -65,6 +66,17 @@ set-default f [] i a b = refl
 set-default f (r ∷ rs) zero a b = refl
 set-default f (r ∷ rs) (suc i) a b = ap (λ (t : List Rec). r ∷ t) (set-default f rs i a b)
 
+-- bytes that become 0 one after another
+pub zeros-more : (r : List ℕ) (i : ℕ) → i < length r → take i r ≡ zerosOf i → take (i + 1) (set r i 0) ≡ zerosOf (i + 1)
+zeros-more r i h e = rw (add-one i, take-suc-set r i 0 h, e) (one-more i)
+  where
+    one-more : (n : ℕ) → zerosOf n ++ (0 ∷ []) ≡ zerosOf (suc n)
+    one-more zero = refl
+    one-more (suc n) = ap (λ (l : List ℕ). 0 ∷ l) (one-more n)
+
+pub zeros-all : (r₀ r : List ℕ) (i : ℕ) → length r ≡ length r₀ → i ≤ length r → length r ≤ i → take i r ≡ zerosOf i → r ≡ zerosOf (length r₀)
+zeros-all r₀ r i l p q e = let z : i ≡ length r₀ = omega arith in sym (take-all i r q) ∙ e ∙ rw z
+
 -- a copy that fills its place
 pub copied : (r x d : List ℕ) → d ≡ take (length r) r ++ x → length d ≡ length r → d ≡ r
 copied r [] d e l = e ∙ rw (take-length, append-nil)
@@ -96,7 +108,12 @@ module _ (s : List ℕ) (i : ℕ) where
       let n : length p ≡ 256 = ap length (q ∙ shown s i h) ∙ length-record s i h in
       copied p x d e (l ∙ sym n) ∙ q ∙ shown s i h ∙ any-default (records s) i [] zeros (omega (arith, length-records s))
 
--- an edit of those that a statement is about, at one place
+-- an edit at one place, and of those only that a statement is about
+pub edit-mid : (f : Rec → Rec) (s : List ℕ) (i : ℕ) (r : List ℕ) → i < length s / 256 → length r ≡ 256
+    → r ≡ f (take ((256 * i + 256) - 256 * i) (drop (256 * i) s))
+    → Becomes (set (records s) i (f (getD (records s) i zeros))) s (putMid (256 * i) ((256 * i + 256) - 256 * i) s r)
+edit-mid f s i r h l q = rw (set-default f (records s) i zeros [], ← shown s i h) (put-mid s i r _ h l q)
+
 module _ (φ : Rec → Form) (f : Rec → Rec) (s : List ℕ) (i : ℕ) where
   pub edit-at : (r t : List ℕ) → test (φ (getD (records s) i [])) ≡ true → r ≡ f (getD (records s) i zeros) → Becomes (set (records s) i r) s t
       → Becomes (set (records s) i (only φ f (getD (records s) i []))) s t

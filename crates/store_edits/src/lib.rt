@@ -1,28 +1,28 @@
 // A lent store's records written. Each function says what the records are afterwards, and so every byte of the store: `Becomes` keeps
-// what stands behind the last whole record. A record is changed by value and put back; past the last record nothing is written.
+// what stands behind the last whole record. A record is edited where it stands; past the last record nothing is written.
+use paper::RECORD_BYTES;
 use store_records::Choice;
 use store_records::find;
 use store_records::is_chosen;
 use store_records::record_at;
 ghost use mathlib.Core.Path.{_≡_};
-ghost use mathlib.Core.List.{[], _∷_, map};
-ghost use Prim.Native.Nat.{_+_, _/_, _%_, _<_};
-ghost use lib.ListN.{getD, set};
-ghost use Rattle.paper.specs.Bytes.{over};
+ghost use mathlib.Core.List.{[], map};
+ghost use Prim.Native.Nat.{_+_, _%_};
+ghost use lib.ListN.{length, getD, set};
+ghost use Rattle.paper.specs.Limits.{recordBytes};
+ghost use Rattle.paper.specs.Bytes.{zerosOf};
 ghost use Rattle.paper.specs.Form.{only};
 ghost use Rattle.paper.specs.Records.{records, is, bears, zeros, insert as inserted};
 ghost use Rattle.paper.specs.Pin.{clear, addOne};
-ghost use Rattle.paper.specs.Closing.{stale, pendingOn, one};
 ghost use Rattle.store_records.specs.View.{Becomes};
 ghost use Rattle.store_records.specs.Choices.{chosen};
 ghost use Rattle.store_edits.specs.Edits.{edited};
 
-// What becomes of a record: it is freed; the count at a byte becomes 0, or one more; a pending loses its target and is marked stale.
+// What becomes of a record: it is freed; the count at a byte becomes 0, or one more.
 pub enum Edit {
     Free,
     Clear(u8),
     AddOne(u8),
-    Stale,
 }
 
 // Record i by value; past the last record zeros.
@@ -30,11 +30,11 @@ pub fn copy_of(s: &[u8], i: usize) -> [u8; 256]
     ensures { λ r. ⌜ r ≡ getD (records (now (s .entry))) i zeros ⌝ }
 {
     let mut r = [0u8; 256];
-    if s.len() / 256 <= i {
+    if s.len() / RECORD_BYTES <= i {
         return r;
     }
-    let a = 256 * i;
-    let e = a + 256;
+    let a = RECORD_BYTES * i;
+    let e = a + RECORD_BYTES;
     bytes::copy(&s[a..e], &mut r);
     r
 }
@@ -43,19 +43,11 @@ pub fn copy_of(s: &[u8], i: usize) -> [u8; 256]
 pub fn put(s: &mut [u8], i: usize, r: &[u8; 256])
     ensures { λ _. ⌜ Becomes (set (records (now (s .entry))) i (now (r .entry))) (now (s .entry)) (now (s .exit)) ⌝ }
 {
-    if i < s.len() / 256 {
-        let a = 256 * i;
-        let e = a + 256;
-        bytes::copy(r, &mut s[a..e]);
+    if i < s.len() / RECORD_BYTES {
+        let from = RECORD_BYTES * i;
+        let to = from + RECORD_BYTES;
+        bytes::copy(r, &mut s[from..to]);
     }
-}
-
-// Record i is freed.
-pub fn free_at(s: &mut [u8], i: usize)
-    ensures { λ _. ⌜ Becomes (set (records (now (s .entry))) i zeros) (now (s .entry)) (now (s .exit)) ⌝ }
-{
-    let z = [0u8; 256];
-    put(s, i, &z);
 }
 
 // A new record takes the lowest free place; where there is none, nothing changes.
@@ -64,14 +56,6 @@ pub fn insert(s: &mut [u8], r: &[u8; 256])
 {
     let i = find(s, Choice::Free);
     put(s, i, r);
-}
-
-fn with_byte(mut r: [u8; 256], k: u8, v: u8) -> [u8; 256]
-    ensures { λ t. ⌜ t ≡ over k (v ∷ []) r ⌝ }
-{
-    let i = k as usize;
-    r[i] = v;
-    r
 }
 
 fn one_more(b: u8) -> u8
@@ -83,42 +67,60 @@ fn one_more(b: u8) -> u8
     b + 1
 }
 
-fn counted(r: [u8; 256], k: u8) -> [u8; 256]
-    ensures { λ t. ⌜ t ≡ addOne k r ⌝ }
+// Every byte becomes 0.
+fn blank(r: &mut [u8])
+    ensures { λ _. ⌜ now (r .exit) ≡ zerosOf (length (now (r .entry))) ⌝ }
 {
-    let i = k as usize;
-    with_byte(r, k, one_more(r[i]))
-}
-
-fn staled(mut r: [u8; 256]) -> [u8; 256]
-    ensures { λ t. ⌜ t ≡ stale r ⌝ }
-{
-    r[12] = 0;
-    r[13] = 0;
-    r[14] = 0;
-    r[15] = 0;
-    r[2] = 1;
-    r
-}
-
-fn changed(r: [u8; 256], e: Edit) -> [u8; 256]
-    ensures { λ t. ⌜ t ≡ edited e r ⌝ }
-{
-    match e {
-        Edit::Free => [0u8; 256],
-        Edit::Clear(k) => with_byte(r, k, 0),
-        Edit::AddOne(k) => counted(r, k),
-        Edit::Stale => staled(r),
+    let mut k: usize = 0;
+    while k < r.len() {
+        r[k] = 0;
+        k += 1;
     }
 }
 
-// Record i, if it is meant, is edited.
+// A record is edited where it stands.
+fn alter(r: &mut [u8], e: Edit)
+    requires { ⌜ length (now r) ≡ recordBytes ⌝ }
+    ensures { λ _. ⌜ now (r .exit) ≡ edited e (now (r .entry)) ⌝ }
+{
+    match e {
+        Edit::Free => blank(r),
+        Edit::Clear(k) => {
+            let i = k as usize;
+            r[i] = 0;
+        }
+        Edit::AddOne(k) => {
+            let i = k as usize;
+            r[i] = one_more(r[i]);
+        }
+    }
+}
+
+// Record i is edited.
+fn edit_at(s: &mut [u8], i: usize, e: Edit)
+    ensures { λ _. ⌜ Becomes (set (records (now (s .entry))) i (edited e (getD (records (now (s .entry))) i zeros))) (now (s .entry)) (now (s .exit)) ⌝ }
+{
+    let n = s.len() / RECORD_BYTES;
+    if i < n {
+        let a = RECORD_BYTES * i;
+        let z = a + RECORD_BYTES;
+        alter(&mut s[a..z], e);
+    }
+}
+
+// It is freed.
+pub fn free_at(s: &mut [u8], i: usize)
+    ensures { λ _. ⌜ Becomes (set (records (now (s .entry))) i zeros) (now (s .entry)) (now (s .exit)) ⌝ }
+{
+    edit_at(s, i, Edit::Free);
+}
+
+// It is edited if it is meant.
 pub fn change_at(s: &mut [u8], i: usize, c: Choice, e: Edit)
     ensures { λ _. ⌜ Becomes (set (records (now (s .entry))) i (only (chosen c) (edited e) (getD (records (now (s .entry))) i []))) (now (s .entry)) (now (s .exit)) ⌝ }
 {
     if is_chosen(record_at(s, i), c) {
-        let r = changed(copy_of(s, i), e);
-        put(s, i, &r);
+        edit_at(s, i, e);
     }
 }
 
@@ -126,7 +128,7 @@ pub fn change_at(s: &mut [u8], i: usize, c: Choice, e: Edit)
 pub fn change(s: &mut [u8], c: Choice, e: Edit)
     ensures { λ _. ⌜ Becomes (map (only (chosen c) (edited e)) (records (now (s .entry)))) (now (s .entry)) (now (s .exit)) ⌝ }
 {
-    let n = s.len() / 256;
+    let n = s.len() / RECORD_BYTES;
     let mut i: usize = 0;
     while i < n {
         change_at(s, i, c, e);
@@ -139,13 +141,6 @@ pub fn free_session(s: &mut [u8], h: u32)
     ensures { λ _. ⌜ Becomes (map (only (bears h) (λ r. zeros)) (records (now (s .entry)))) (now (s .entry)) (now (s .exit)) ⌝ }
 {
     change(s, Choice::Bears(h), Edit::Free);
-}
-
-// Every pending on the key is marked stale.
-pub fn mark_stale(s: &mut [u8], key: u32)
-    ensures { λ _. ⌜ Becomes (map (only (pendingOn (one key)) stale) (records (now (s .entry)))) (now (s .entry)) (now (s .exit)) ⌝ }
-{
-    change(s, Choice::Aimed(key), Edit::Stale);
 }
 
 // The count at byte k of that record becomes 0: byte 2 of a key, byte 3 of a PUK.

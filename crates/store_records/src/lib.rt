@@ -1,6 +1,22 @@
 // A lent store as records, over total readers of any slice of bytes. Past the end of a slice a byte is 0 and a part is the shorter part;
 // past the last whole record a record is empty, and every byte of it reads 0. So nothing is asked of any slice, and every promise is that
 // of the paper's Bytes and Records. First the readers, then records and look-ups, then the key that a call names with its kin.
+use paper::CLOSED;
+use paper::FREE;
+use paper::HANDLE_STEP;
+use paper::HOME;
+use paper::KEY;
+use paper::KIND;
+use paper::OWN;
+use paper::PARENT;
+use paper::PENDING;
+use paper::POLICY;
+use paper::PUK;
+use paper::RECORD_BYTES;
+use paper::RETRY_LIMIT;
+use paper::SESSION;
+use paper::STALE;
+use paper::STATE;
 ghost use mathlib.Core.Path.{_≡_};
 ghost use Prim.Native.Nat.{_+_, _*_, _≤_};
 ghost use Rattle.hmac.specs.Same.{same as sameBytes};
@@ -9,7 +25,7 @@ ghost use mathlib.Core.List.{[]};
 ghost use lib.ListN.{length, getD};
 ghost use Rattle.paper.specs.Form.{test, _==_, some, seek};
 ghost use Rattle.paper.specs.Records.{records, is, bears as bearsIt, isFree, at, sessionOf};
-ghost use Rattle.paper.specs.Closing.{held, pendingOn, one};
+ghost use Rattle.paper.specs.Closing.{held};
 ghost use Rattle.store_records.specs.View.{index};
 ghost use Rattle.store_records.specs.Choices.{chosen};
 ghost use Rattle.paper.specs.Posting.{target as targetOf, home as homeOf, isTarget};
@@ -170,7 +186,7 @@ pub fn same(a: &[u8], b: &[u8]) -> bool
 // ---- records: `record_at` alone shows where one stands; every test is of one record, and a look-up goes from the first to the last
 
 // Which records are meant: those of a kind; by kind, own handle and session; of these such as have a retry limit; by session; by
-// kind and session; by kind, parent and session; a session's unstale pendings on a key; all pendings on a key; free places.
+// kind and session; by kind, parent and session; a session's unstale pendings on a key; free places.
 pub enum Choice {
     Kind(u8),
     That(u8, u32, u32),
@@ -179,7 +195,6 @@ pub enum Choice {
     Of(u8, u32),
     Child(u8, u32, u32),
     Held(u32, u32),
-    Aimed(u32),
     Free,
 }
 
@@ -187,37 +202,37 @@ pub enum Choice {
 pub fn count(s: &[u8]) -> usize
     ensures { λ r. ⌜ r ≡ length (records (now (s .entry))) ⌝ }
 {
-    s.len() / 256
+    s.len() / RECORD_BYTES
 }
 
 // Record i as a part of the store.
 pub fn record_at<'a>(s: &'a [u8], i: usize) -> &'a [u8]
     ensures { λ r. ⌜ now r ≡ getD (records (now (s .entry))) i [] ⌝ }
 {
-    if s.len() / 256 <= i {
+    if s.len() / RECORD_BYTES <= i {
         return &s[0..0];
     }
-    let a = 256 * i;
-    let e = a + 256;
+    let a = RECORD_BYTES * i;
+    let e = a + RECORD_BYTES;
     &s[a..e]
 }
 
 pub fn is_kind(r: &[u8], kind: u8) -> bool
     ensures { λ b. ⌜ b ≡ test (chosen (Choice.Kind kind) (now (r .entry))) ⌝ }
 {
-    byte_at(r, 0) == kind
+    byte_at(r, KIND) == kind
 }
 
 pub fn is_that(r: &[u8], kind: u8, own: u32, session: u32) -> bool
     ensures { λ b. ⌜ b ≡ test (is kind own session (now (r .entry))) ⌝ }
 {
-    if byte_at(r, 0) != kind {
+    if byte_at(r, KIND) != kind {
         return false;
     }
-    if four_at(r, 4) != own {
+    if four_at(r, OWN) != own {
         return false;
     }
-    four_at(r, 8) == session
+    four_at(r, HOME) == session
 }
 
 pub fn is_limited(r: &[u8], kind: u8, own: u32, session: u32) -> bool
@@ -226,13 +241,13 @@ pub fn is_limited(r: &[u8], kind: u8, own: u32, session: u32) -> bool
     if !is_that(r, kind, own, session) {
         return false;
     }
-    byte_at(r, 2) != 0
+    byte_at(r, RETRY_LIMIT) != 0
 }
 
 pub fn bears(r: &[u8], handle: u32) -> bool
     ensures { λ b. ⌜ b ≡ test (bearsIt handle (now (r .entry))) ⌝ }
 {
-    four_at(r, 8) == handle
+    four_at(r, HOME) == handle
 }
 
 pub fn is_of(r: &[u8], sort: u8, session: u32) -> bool
@@ -247,46 +262,37 @@ pub fn is_of(r: &[u8], sort: u8, session: u32) -> bool
 pub fn is_child(r: &[u8], sort: u8, parent: u32, session: u32) -> bool
     ensures { λ b. ⌜ b ≡ test (chosen (Choice.Child sort parent session) (now (r .entry))) ⌝ }
 {
-    if byte_at(r, 0) != sort {
+    if byte_at(r, KIND) != sort {
         return false;
     }
-    if four_at(r, 12) != parent {
+    if four_at(r, PARENT) != parent {
         return false;
     }
-    four_at(r, 8) == session
+    four_at(r, HOME) == session
 }
 
 pub fn is_held(r: &[u8], session: u32, key: u32) -> bool
     ensures { λ b. ⌜ b ≡ test (held session key (now (r .entry))) ⌝ }
 {
-    if byte_at(r, 0) != 5 {
+    if byte_at(r, KIND) != PENDING {
         return false;
     }
-    if four_at(r, 8) != session {
+    if four_at(r, HOME) != session {
         return false;
     }
-    if byte_at(r, 2) != 0 {
+    if byte_at(r, STALE) != 0 {
         return false;
     }
-    four_at(r, 12) == key
-}
-
-pub fn is_aimed(r: &[u8], key: u32) -> bool
-    ensures { λ b. ⌜ b ≡ test (pendingOn (one key) (now (r .entry))) ⌝ }
-{
-    if byte_at(r, 0) != 5 {
-        return false;
-    }
-    four_at(r, 12) == key
+    four_at(r, PARENT) == key
 }
 
 pub fn is_free(r: &[u8]) -> bool
     ensures { λ b. ⌜ b ≡ isFree (now (r .entry)) ⌝ }
 {
-    if r.len() != 256 {
+    if r.len() != RECORD_BYTES {
         return false;
     }
-    if r[0] != 0 {
+    if r[KIND] != FREE {
         return false;
     }
     is_blank(r)
@@ -303,7 +309,6 @@ pub fn is_chosen(r: &[u8], c: Choice) -> bool
         Choice::Of(sort, session) => is_of(r, sort, session),
         Choice::Child(sort, parent, session) => is_child(r, sort, parent, session),
         Choice::Held(session, key) => is_held(r, session, key),
-        Choice::Aimed(key) => is_aimed(r, key),
         Choice::Free => is_free(r),
     }
 }
@@ -312,15 +317,15 @@ pub fn is_chosen(r: &[u8], c: Choice) -> bool
 pub fn find(s: &[u8], c: Choice) -> usize
     ensures { λ r. ⌜ r ≡ index (chosen c) (records (now (s .entry))) ⌝ }
 {
-    let n = s.len() / 256;
-    let mut i: usize = 0;
-    while i < n {
-        if is_chosen(record_at(s, i), c) {
-            return i;
+    let n = s.len() / RECORD_BYTES;
+    let mut at: usize = 0;
+    while at < n {
+        if is_chosen(record_at(s, at), c) {
+            return at;
         }
-        i += 1;
+        at += 1;
     }
-    i
+    at
 }
 
 // Whether there is one.
@@ -343,7 +348,7 @@ pub fn first<'a>(s: &'a [u8], c: Choice) -> &'a [u8]
 pub fn session_of(h: u32) -> u32
     ensures { λ r. ⌜ r ≡ sessionOf h ⌝ }
 {
-    h / 65536 * 65536
+    h / HANDLE_STEP * HANDLE_STEP
 }
 
 // The record of this kind, own handle and session.
@@ -357,35 +362,35 @@ pub fn that<'a>(store: &'a [u8], kind: u8, own: u32, session: u32) -> &'a [u8]
 pub fn target<'a>(store: &'a [u8], k: u32) -> &'a [u8]
     ensures { λ r. ⌜ now r ≡ targetOf k (records (now (store .entry))) ⌝ }
 {
-    that(store, 4, k, session_of(k))
+    that(store, KEY, k, session_of(k))
 }
 
 pub fn home<'a>(store: &'a [u8], k: u32) -> &'a [u8]
     ensures { λ r. ⌜ now r ≡ homeOf k (records (now (store .entry))) ⌝ }
 {
     let h = session_of(k);
-    that(store, 1, h, h)
+    that(store, SESSION, h, h)
 }
 
 // Whether it is a key of a closed session.
 pub fn is_target(store: &[u8], k: u32) -> bool
     ensures { λ r. ⌜ r ≡ test (isTarget k (records (now (store .entry)))) ⌝ }
 {
-    if byte_at(target(store, k), 0) != 4 {
+    if byte_at(target(store, k), KIND) != KEY {
         return false;
     }
-    byte_at(home(store, k), 1) == 2
+    byte_at(home(store, k), STATE) == CLOSED
 }
 
 // A key's policy, and a policy's PUK.
 pub fn policy_of<'a>(store: &'a [u8], key: &[u8]) -> &'a [u8]
     ensures { λ r. ⌜ now r ≡ policyOf (now (key .entry)) (records (now (store .entry))) ⌝ }
 {
-    that(store, 3, four_at(key, 12), four_at(key, 8))
+    that(store, POLICY, four_at(key, PARENT), four_at(key, HOME))
 }
 
 pub fn puk_of<'a>(store: &'a [u8], policy: &[u8]) -> &'a [u8]
     ensures { λ r. ⌜ now r ≡ pukOf (now (policy .entry)) (records (now (store .entry))) ⌝ }
 {
-    that(store, 2, four_at(policy, 12), four_at(policy, 8))
+    that(store, PUK, four_at(policy, PARENT), four_at(policy, HOME))
 }

@@ -1,4 +1,4 @@
--- What is decoded from a session's record and encoded again is the record.
+-- What is decoded from a session's record tells a call all that the record does; encoded again it is the record.
 use mathlib.Core.Bool.{Bool, true, false, _&&_}
 use mathlib.Core.Path.{_≡_, refl, sym, ap, ap₂, _∙_}
 use mathlib.Core.List.{List, [], _∷_, _++_, append-assoc, append-nil}
@@ -8,15 +8,15 @@ use native.Mathlib.Omega.{arith}
 use borrow.Author.Tests.{eqb-true, leb-true}
 use lib.Dec.{eqb, leb}
 use lib.ListN.{length, take, drop, length-take, length-drop}
-use lib.Seq.{drop-cons, drop-drop, take-add, take-all, take-length}
-use Rattle.paper.specs.Bytes.{byte, two, four, part, enc2, enc4, zerosOf, within, allWithin}
+use lib.Seq.{drop-cons, drop-drop, take-add, take-all, take-length, take-take}
+use Rattle.paper.specs.Bytes.{byte, two, four, part, textAt, enc2, enc4, zerosOf, within, allWithin}
 use Rattle.paper.specs.Form.{Rec}
-use Rattle.paper.specs.Records.{kind, SESSION}
+use Rattle.paper.specs.Records.{kind, SESSION, byValue, clientId}
 use Rattle.paper.specs.Table.{u8, u16, blank, ident, flag, fieldFits, fits, sessionFields, fieldsOf, obeysTable, isBlank}
 use Rattle.paper.proofs.Forms.{contrary}
 use Rattle.store_draft.specs.Drafts.{laid}
 use Rattle.store_draft.proofs.Laying.{laid-whole}
-use Rattle.store_session.specs.Decoded.{block, front, names, back, decoded, encoded}
+use Rattle.store_session.specs.Decoded.{block, valueOf, front, names, back, decoded, encoded}
 
 halves : (a b : Bool) → a && b ≡ true → (a ≡ true) × (b ≡ true)
 halves true b e = (refl, e)
@@ -105,6 +105,22 @@ module _ (r : Rec) where
   block-part : (k : ℕ) → k + 32 ≤ length r → block k r ≡ part k 32 r
   unfolding block
   block-part k h = rw (length-part k 32 h) (append-nil (part k 32 r))
+
+  -- the value's fields are the record's
+  client-part : length r ≡ 256 → byte 49 r ≤ 32 → take (byte 49 r) (block 50 r) ≡ clientId r
+  unfolding part textAt
+  client-part l h = rw (block-part 50 (omega arith), take-take)
+
+  pub decoded-value : length r ≡ 256 → byte 49 r ≤ 32 → valueOf (decoded r) ≡ byValue r
+  unfolding decoded
+  decoded-value l h =
+      λ j. record {
+        key = block-part 82 (omega arith) j;
+        client = client-part l h j;
+        counter = byValue r .counter;
+        limit = byValue r .limit;
+        next = byValue r .next;
+      }
 
 module _ (r : Rec) (small : (i : ℕ) → byte i r < 256) where
   two-part : (k : ℕ) → k + 2 ≤ length r → enc2 (two k r) ≡ part k 2 r

@@ -1,6 +1,6 @@
 -- Which method a step is, what a sound store grants it, and the answer put together.
 use mathlib.Core.Path.{_≡_, refl, sym, ap, _∙_}
-use mathlib.Core.Bool.{Bool, true, false}
+use mathlib.Core.Bool.{true, false}
 use mathlib.Core.List.{List, [], _∷_, map, append-assoc}
 use Prim.Native.Nat.{ℕ, _-_, _/_, _%_, _≤_, _<_}
 use native.Mathlib.Omega.{arith}
@@ -12,13 +12,13 @@ use borrow.Rule.Slice.PartMut.{putMid}
 use Rattle.paper.specs.Limits.{recordBytes}
 use Rattle.paper.specs.Bytes.{enc4, over, within}
 use Rattle.paper.specs.Form.{Rec, test, Fact}
-use Rattle.paper.specs.Records.{records, block, zeros}
+use Rattle.paper.specs.Records.{SessionValue, records, block, zeros}
 use Rattle.paper.specs.Sound.{lengthFits, Sound, sound}
 use Rattle.paper.specs.Calls.{method, subject, isSessionCall, postIn}
-use Rattle.paper.specs.Act.{Out, perform}
-use Rattle.paper.specs.Objects.{makePuk, makePolicy, makeKey, setPath}
-use Rattle.paper.specs.Posting.{look, postDelete, postUnlock}
-use Rattle.paper.specs.Sessions.{createSession, closeSession, abortSession}
+use Rattle.paper.specs.Act.{Out, Act, perform, itself}
+use Rattle.paper.specs.Objects.{makePukBy, makePolicyBy, makeKeyBy, setPathBy}
+use Rattle.paper.specs.Posting.{look, postBy}
+use Rattle.paper.specs.Sessions.{createSession, closeBy, abortSession}
 use Rattle.paper.specs.Users.{deleteKey, unlockKey, changePin, useKey}
 use Rattle.paper.specs.Answer.{sessionAct, sessionStep, userStep, step, earlyFaults, judged, told, written, answer, freshCounter, formatted}
 use Rattle.paper.proofs.Forms.{both}
@@ -40,9 +40,12 @@ module _ (s : List ℕ) (h : sound s ≡ true) where
   unfolding sound
   fitting = split (lengthFits s) (test (Sound (records s))) h .0
 
-  pub proper-store : Fact (Sound (records s))
+  pub tested : test (Sound (records s)) ≡ true
   unfolding sound
-  proper-store = both (Sound (records s)) .0 (split (lengthFits s) (test (Sound (records s))) h .1)
+  tested = split (lengthFits s) (test (Sound (records s))) h .1
+
+  pub proper-store : Fact (Sound (records s))
+  proper-store = both (Sound (records s)) .0 tested
 
 -- its length, as format asks it
 module _ (s : List ℕ) (h : lengthFits s ≡ true) where
@@ -65,40 +68,46 @@ ranged f {s} h a = rw (length-records s, le-leb (length s / 256) 256 (not-many s
 
 -- ---- the method of a step
 
-module _ (c chip : List ℕ) (rs : List Rec) where
-  pub step-3 : method c ≡ 3 → sessionStep c chip rs ≡ perform (subject c) (closeSession c chip (block (subject c) rs)) rs
-  unfolding sessionStep sessionAct
-  step-3 e = rw e
+module _ (c chip : List ℕ) (rs : List Rec) {x : SessionValue} (e : x ≡ itself c (block (subject c) rs)) where
+  -- the session's value is the paper's
+  by : (f : SessionValue → Act) → perform (subject c) (f (itself c (block (subject c) rs))) rs ≡ perform (subject c) (f x) rs
+  by f = ap (λ (y : SessionValue). perform (subject c) (f y) rs) (sym e)
 
-  pub step-5 : method c ≡ 5 → sessionStep c chip rs ≡ perform (subject c) (abortSession c chip) rs
+  pub step-3 : method c ≡ 3 → sessionStep c chip rs ≡ perform (subject c) (closeBy x c chip (block (subject c) rs)) rs
   unfolding sessionStep sessionAct
-  step-5 e = rw e
+  step-3 m = rw m (by (λ y. closeBy y c chip (block (subject c) rs)))
 
-  pub step-8 : method c ≡ 8 → sessionStep c chip rs ≡ perform (subject c) (makePuk c chip (block (subject c) rs)) rs
+  pub step-8 : method c ≡ 8 → sessionStep c chip rs ≡ perform (subject c) (makePukBy x c chip (block (subject c) rs)) rs
   unfolding sessionStep sessionAct
-  step-8 e = rw e
+  step-8 m = rw m (by (λ y. makePukBy y c chip (block (subject c) rs)))
 
-  pub step-9 : method c ≡ 9 → sessionStep c chip rs ≡ perform (subject c) (makePolicy c chip (block (subject c) rs)) rs
+  pub step-9 : method c ≡ 9 → sessionStep c chip rs ≡ perform (subject c) (makePolicyBy x c chip (block (subject c) rs)) rs
   unfolding sessionStep sessionAct
-  step-9 e = rw e
+  step-9 m = rw m (by (λ y. makePolicyBy y c chip (block (subject c) rs)))
 
-  pub step-10 : method c ≡ 10 → sessionStep c chip rs ≡ perform (subject c) (makeKey c chip (block (subject c) rs)) rs
+  pub step-10 : method c ≡ 10 → sessionStep c chip rs ≡ perform (subject c) (makeKeyBy x c chip (block (subject c) rs)) rs
   unfolding sessionStep sessionAct
-  step-10 e = rw e
+  step-10 m = rw m (by (λ y. makeKeyBy y c chip (block (subject c) rs)))
 
-  pub step-12 : method c ≡ 12 → sessionStep c chip rs ≡ perform (subject c) (setPath c chip (block (subject c) rs)) rs
+  pub step-12 : method c ≡ 12 → sessionStep c chip rs ≡ perform (subject c) (setPathBy x c chip (block (subject c) rs)) rs
   unfolding sessionStep sessionAct
-  step-12 e = rw e
+  step-12 m = rw m (by (λ y. setPathBy y c chip (block (subject c) rs)))
 
-  pub step-50 : method c ≡ 50 → sessionStep c chip rs ≡ perform (subject c) (postDelete c chip (block (subject c) rs) (look (postIn c chip .key) rs)) rs
+  pub step-50 : method c ≡ 50 → sessionStep c chip rs ≡ perform (subject c) (postBy 50 "postDeleteKey" x c chip (block (subject c) rs) (look (postIn c chip .key) rs)) rs
   unfolding sessionStep sessionAct
-  step-50 e = rw e
+  step-50 m = rw m (by (λ y. postBy 50 "postDeleteKey" y c chip (block (subject c) rs) (look (postIn c chip .key) rs)))
 
   pub step-51 : (method c ≡ 3 → ⊥) → (method c ≡ 5 → ⊥) → (method c ≡ 8 → ⊥) → (method c ≡ 9 → ⊥) → (method c ≡ 10 → ⊥) → (method c ≡ 12 → ⊥)
-      → (method c ≡ 50 → ⊥) → sessionStep c chip rs ≡ perform (subject c) (postUnlock c chip (block (subject c) rs) (look (postIn c chip .key) rs)) rs
+      → (method c ≡ 50 → ⊥) → sessionStep c chip rs ≡ perform (subject c) (postBy 51 "postUnlockKey" x c chip (block (subject c) rs) (look (postIn c chip .key) rs)) rs
   unfolding sessionStep sessionAct
   step-51 h3 h5 h8 h9 h10 h12 h50 =
       rw (ne-eqb (method c) 3 h3, ne-eqb (method c) 5 h5, ne-eqb (method c) 8 h8, ne-eqb (method c) 9 h9, ne-eqb (method c) 10 h10, ne-eqb (method c) 12 h12, ne-eqb (method c) 50 h50)
+      (by (λ y. postBy 51 "postUnlockKey" y c chip (block (subject c) rs) (look (postIn c chip .key) rs)))
+
+module _ (c chip : List ℕ) (rs : List Rec) where
+  pub step-5 : method c ≡ 5 → sessionStep c chip rs ≡ perform (subject c) (abortSession c chip) rs
+  unfolding sessionStep sessionAct
+  step-5 m = rw m
 
   pub step-80 : method c ≡ 80 → userStep c chip rs ≡ deleteKey c chip rs
   unfolding userStep
@@ -135,18 +144,10 @@ module _ (s c chip : List ℕ) {n : ℕ} (e : n ≡ status (earlyFaults s c)) wh
   unfolding judged
   judged-not h = rw (settle-not (earlyFaults s c) _ (told (step c chip (records s))) refl (λ z. h (e ∙ z)), e)
 
-  pub was-sound : n ≡ 0 → sound s ≡ true
-  unfolding status
-  was-sound z = go (sound s) refl
-    where
-      go : (b : Bool) → sound s ≡ b → sound s ≡ true
-      go true f = f
-      go false f = absurd (let a : status (earlyFaults s c) ≡ 19 = rw f in let w : 19 ≡ 0 = sym a ∙ sym e ∙ z in omega arith)
-
-  pub judged-done : {r : Reply} {t : List ℕ} → n ≡ 0 → Answers (step c chip (records s)) r s t → known r t ≡ judged s c chip
+  pub judged-done : {r : Reply} {t : List ℕ} → sound s ≡ true → n ≡ 0 → Answers (step c chip (records s)) r s t → known r t ≡ judged s c chip
   unfolding judged
-  judged-done {r} {t} z a =
-      rw (settle-done (earlyFaults s c) _ (told (step c chip (records s))) refl (sym e ∙ z), a .reply, whole (step c chip (records s) .store) s t (even s (fitting s (was-sound z))) (a .store))
+  judged-done {r} {t} h z a =
+      rw (settle-done (earlyFaults s c) _ (told (step c chip (records s))) refl (sym e ∙ z), a .reply, whole (step c chip (records s) .store) s t (even s (fitting s h)) (a .store))
 
 -- ---- the reply, and format
 

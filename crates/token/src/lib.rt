@@ -2,34 +2,51 @@
 // Whatever is refused before the method is known, or before its session is found open, leaves the store as it is.
 use method_acts::Reply;
 use method_acts::bare;
-use method_acts::both;
 use method_acts::fault;
+use paper::DONE;
+use paper::METHOD;
+use paper::NO_FORM;
+use paper::NOT_OPEN;
+use paper::RECORD_BYTES;
+use paper::REPLY_ATTESTATION;
+use paper::REPLY_BYTES;
+use paper::REPLY_HANDLE;
+use paper::REPLY_STATUS;
+use paper::SHORT_REPLY;
+use paper::SUBJECT;
+use paper::UNSOUND;
 use store_records::Choice;
 use store_records::byte_at;
 use store_records::four_at;
+use store_records::record_at;
+use store_session::Session;
 ghost use mathlib.Core.Path.{_≡_};
 ghost use mathlib.Core.Bool.{true};
 ghost use mathlib.Core.List.{_∷_, map};
 ghost use Prim.Native.Nat.{_≤_};
 ghost use lib.ListN.{length};
 ghost use Rattle.paper.specs.Bytes.{enc4, over};
-ghost use Rattle.paper.specs.Form.{test};
 ghost use Rattle.paper.specs.Calls.{method};
 ghost use Rattle.paper.specs.Records.{records, zeros};
 ghost use Rattle.paper.specs.Sound.{sound as isSound};
-ghost use Rattle.paper.specs.Answer.{isOpen, earlyFaults, sessionStep, userStep, step as stepOf, judged, answer, freshCounter, formatted};
+ghost use Rattle.paper.specs.Answer.{earlyFaults, sessionStep, userStep, step as stepOf, judged, answer, freshCounter, formatted};
 ghost use Rattle.store_records.specs.View.{Becomes};
+ghost use Rattle.store_session.specs.Decoded.{valueOf};
 ghost use Rattle.method_acts.specs.Rungs.{status};
 ghost use Rattle.method_acts.specs.Answers.{Answers, bareReply};
 ghost use Rattle.token.specs.Said.{known, told, made};
+ghost use Rattle.token.specs.Early.{placeOf, Passed, Open, Found};
+
+// The last byte of the counter's number.
+const LAST_OF_NUMBER: usize = paper::COUNTER_END - 1;
 
 // The counter of session numbers at 1.
 fn counter() -> [u8; 256]
     ensures { λ r. ⌜ r ≡ freshCounter ⌝ }
 {
     let mut r = [0u8; 256];
-    r[0] = 6;
-    r[7] = 1;
+    r[paper::KIND] = paper::COUNTER;
+    r[LAST_OF_NUMBER] = 1;
     r
 }
 
@@ -37,7 +54,7 @@ fn counter() -> [u8; 256]
 fn clear(s: &mut [u8])
     ensures { λ _. ⌜ Becomes (map (λ r. zeros) (records (now (s .entry)))) (now (s .entry)) (now (s .exit)) ⌝ }
 {
-    let n = s.len() / 256;
+    let n = s.len() / RECORD_BYTES;
     let mut i: usize = 0;
     while i < n {
         store_edits::free_at(s, i);
@@ -50,68 +67,72 @@ pub fn format(store: &mut [u8]) -> u8
     ensures { λ r. ⌜ made r (now (store .exit)) ≡ formatted (now (store .entry)) ⌝ }
 {
     if !sound_store::length_fits(store) {
-        return 19;
+        return UNSOUND;
     }
     clear(store);
     let r = counter();
     store_edits::put(store, 0, &r);
-    0
+    DONE
 }
 
-fn is_open(s: &[u8], t: u32) -> bool
-    ensures { λ b. ⌜ b ≡ test (isOpen t (records (now (s .entry)))) ⌝ }
+// The place of the session that a call names, or the number of records.
+fn place(s: &[u8], c: &[u8]) -> usize
+    ensures { λ i. ⌜ i ≡ placeOf (now (s .entry)) (now (c .entry)) ⌝ }
 {
-    byte_at(store_records::first(s, Choice::That(1, t, t)), 1) == 1
+    let t = four_at(c, SUBJECT);
+    store_records::find(s, Choice::That(paper::SESSION, t, t))
 }
 
 // What is asked before the method: a sound store, a method and a length that there are, an open session.
-fn early(s: &[u8], c: &[u8]) -> u8
+fn early(s: &[u8], i: usize, c: &[u8]) -> u8
+    requires { ⌜ i ≡ placeOf (now s) (now c) ⌝ }
     ensures { λ r. ⌜ r ≡ status (earlyFaults (now (s .entry)) (now (c .entry))) ⌝ }
 {
-    let n1 = fault(0, !sound_store::is_sound(s), 19);
-    let n2 = fault(n1, !call_form::is_known(c), 16);
-    let closed = !is_open(s, four_at(c, 1));
-    fault(n2, both(call_form::is_session_call(c), closed), 5)
+    let closed = !(byte_at(record_at(s, i), paper::STATE) == paper::OPEN);
+    let n1 = fault(0, !sound_store::is_sound(s), UNSOUND);
+    let n2 = fault(n1, !call_form::is_known(c), NO_FORM);
+    fault(n2, call_form::is_session_call(c) & closed, NOT_OPEN)
 }
 
 // The calls that make something in a session, by their method.
-fn make_step<'a>(s: &mut [u8], c: &'a [u8], chip: &'a [u8]) -> Reply
-    requires { ⌜ (isSound (now s) ≡ true) × (method (now c) ≡ 3 → ⊥) × (method (now c) ≡ 5 → ⊥) ⌝ }
+fn make_step<'a>(s: &mut [u8], x: Session, c: &'a [u8], chip: &'a [u8]) -> Reply
+    requires { ⌜ Found (now s) (now c) (valueOf x) × (method (now c) ≡ 3 → ⊥) × (method (now c) ≡ 5 → ⊥) ⌝ }
     ensures { λ r. ⌜ Answers (sessionStep (now (c .entry)) (now (chip .entry)) (records (now (s .entry)))) r (now (s .entry)) (now (s .exit)) ⌝ }
 {
-    let m = byte_at(c, 0);
+    let m = byte_at(c, METHOD);
     if m == 8 {
-        return method_policies::make_puk(s, c, chip);
+        return method_policies::make_puk(s, x, c, chip);
     }
     if m == 9 {
-        return method_policies::make_policy(s, c, chip);
+        return method_policies::make_policy(s, x, c, chip);
     }
     if m == 10 {
-        return method_keys::make_key(s, c, chip);
+        return method_keys::make_key(s, x, c, chip);
     }
     if m == 12 {
-        return method_keys::set_path(s, c, chip);
+        return method_keys::set_path(s, x, c, chip);
     }
     if m == 50 {
-        return method_posts::post_delete(s, c, chip);
+        return method_posts::post_delete(s, x, c, chip);
     }
-    method_posts::post_unlock(s, c, chip)
+    method_posts::post_unlock(s, x, c, chip)
 }
 
-// The calls of a session: it is ended, or something is made in it. The two stand apart so that a close, which calls deepest, does not have
-// the others' drafts below it on the stack.
-fn session_step<'a>(s: &mut [u8], c: &'a [u8], chip: &'a [u8]) -> Reply
-    requires { ⌜ isSound (now s) ≡ true ⌝ }
+// The calls of a session, which is decoded once: it is ended, or something is made in it. The two stand apart so that a close, which
+// calls deepest, does not have the others' drafts below it on the stack.
+fn session_step<'a>(s: &mut [u8], i: usize, c: &'a [u8], chip: &'a [u8]) -> Reply
+    requires { ⌜ Open (now s) (now c) × (i ≡ placeOf (now s) (now c)) ⌝ }
     ensures { λ r. ⌜ Answers (sessionStep (now (c .entry)) (now (chip .entry)) (records (now (s .entry)))) r (now (s .entry)) (now (s .exit)) ⌝ }
 {
-    let m = byte_at(c, 0);
+    let x = store_session::decode(record_at(s, i));
+    let m = byte_at(c, METHOD);
     if m == 3 {
-        return method_session::close(s, c, chip);
+        return method_session::close(s, x, c, chip);
     }
     if m == 5 {
         return method_session::abort(s, c, chip);
     }
-    make_step(s, c, chip)
+    make_step(s, x, c, chip)
 }
 
 // The user's calls.
@@ -119,7 +140,7 @@ fn user_step(s: &mut [u8], c: &[u8], chip: &[u8]) -> u8
     requires { ⌜ isSound (now s) ≡ true ⌝ }
     ensures { λ r. ⌜ Answers (userStep (now (c .entry)) (now (chip .entry)) (records (now (s .entry)))) (bareReply r) (now (s .entry)) (now (s .exit)) ⌝ }
 {
-    let m = byte_at(c, 0);
+    let m = byte_at(c, METHOD);
     if m == 80 {
         return method_users::delete(s, c, chip);
     }
@@ -132,14 +153,14 @@ fn user_step(s: &mut [u8], c: &[u8], chip: &[u8]) -> u8
     method_users::use_key(s, c, chip)
 }
 
-fn step<'a>(s: &mut [u8], c: &'a [u8], chip: &'a [u8]) -> Reply
-    requires { ⌜ isSound (now s) ≡ true ⌝ }
+fn step<'a>(s: &mut [u8], i: usize, c: &'a [u8], chip: &'a [u8]) -> Reply
+    requires { ⌜ Passed (now s) (now c) × (i ≡ placeOf (now s) (now c)) ⌝ }
     ensures { λ r. ⌜ Answers (stepOf (now (c .entry)) (now (chip .entry)) (records (now (s .entry)))) r (now (s .entry)) (now (s .exit)) ⌝ }
 {
     if call_form::is_session_call(c) {
-        return session_step(s, c, chip);
+        return session_step(s, i, c, chip);
     }
-    if byte_at(c, 0) == 2 {
+    if byte_at(c, METHOD) == 2 {
         return method_session::create(s, c, chip);
     }
     bare(user_step(s, c, chip))
@@ -148,11 +169,12 @@ fn step<'a>(s: &mut [u8], c: &'a [u8], chip: &'a [u8]) -> Reply
 fn judge<'a>(s: &mut [u8], c: &'a [u8], chip: &'a [u8]) -> Reply
     ensures { λ r. ⌜ known r (now (s .exit)) ≡ judged (now (s .entry)) (now (c .entry)) (now (chip .entry)) ⌝ }
 {
-    let n = early(s, c);
+    let i = place(s, c);
+    let n = early(s, i, c);
     if n != 0 {
         return bare(n);
     }
-    step(s, c, chip)
+    step(s, i, c, chip)
 }
 
 // The reply's bytes: status and handle, and then the attestation.
@@ -160,26 +182,26 @@ fn write_head(b: &mut [u8], n: u8, h: u64)
     requires { ⌜ 37 ≤ length (now b) ⌝ }
     ensures { λ _. ⌜ now (b .exit) ≡ over 0 (n ∷ enc4 h) (now (b .entry)) ⌝ }
 {
-    b[0] = n;
-    b[1] = (h / 256 / 256 / 256 % 256) as u8;
-    b[2] = (h / 256 / 256 % 256) as u8;
-    b[3] = (h / 256 % 256) as u8;
-    b[4] = (h % 256) as u8;
+    b[REPLY_STATUS] = n;
+    b[REPLY_HANDLE] = (h / 256 / 256 / 256 % 256) as u8;
+    b[REPLY_HANDLE + 1] = (h / 256 / 256 % 256) as u8;
+    b[REPLY_HANDLE + 2] = (h / 256 % 256) as u8;
+    b[REPLY_HANDLE + 3] = (h % 256) as u8;
 }
 
 fn write_attestation(b: &mut [u8], a: [u8; 32])
     requires { ⌜ 37 ≤ length (now b) ⌝ }
     ensures { λ _. ⌜ now (b .exit) ≡ over 5 a (now (b .entry)) ⌝ }
 {
-    bytes::copy(&a, &mut b[5..37]);
+    bytes::copy(&a, &mut b[REPLY_ATTESTATION..REPLY_BYTES]);
 }
 
 // The answer to a call. A reply of fewer than 37 bytes is not written, and nothing is done.
 pub fn call<'a>(store: &mut [u8], call: &'a [u8], chip: &'a [u8], reply: &mut [u8]) -> u8
     ensures { λ r. ⌜ told r (now (store .exit)) (now (reply .exit)) ≡ answer (now (store .entry)) (now (call .entry)) (now (chip .entry)) (now (reply .entry)) ⌝ }
 {
-    if reply.len() < 37 {
-        return 21;
+    if reply.len() < REPLY_BYTES {
+        return SHORT_REPLY;
     }
     let r = judge(store, call, chip);
     let a = r.attestation;

@@ -12,11 +12,11 @@ use Rattle.paper.specs.Bytes.{byte, two, four, part, over, stringAt, behind, te
 use Rattle.paper.specs.Closing.{stale, effect, holds, shut, sealed, closing, carryOut, closedLiterally}
 use Rattle.paper.specs.Form.{only}
 use Rattle.paper.specs.Mac.{macUnder}
-use Rattle.paper.specs.Objects.{pukRecord, policyRecord, keyRecord, certified, makePolicyBy, makePukBy, makeKeyBy, setPathBy}
+use Rattle.paper.specs.Objects.{pukRecord, makePukBy, policyRecord, makePolicyBy, keyRecord, makeKeyBy, certified, setPathBy}
 use Rattle.paper.specs.Pin.{pinCheck, pukCheck, clear, addOne, pinMissed, pinHit, pukMissed, pukHit}
 use Rattle.paper.specs.Posting.{look, pendingRecord, postBy}
 use Rattle.paper.specs.Records.{recordsOf, records, joined, at, block, zeros, isFree}
-use Rattle.paper.specs.Sessions.{sessionRecord, counted, createSession, abortSession, closeBy}
+use Rattle.paper.specs.Sessions.{sessionRecord, counted, createSession, closeBy, abortSession}
 use Rattle.paper.specs.Sound.{lengthFits, sound}
 use Rattle.paper.specs.Table.{obeysTable}
 use Rattle.paper.specs.Text.{alphanumeric, utf8From, formatFits, twoEqualFrom, threeEqualFrom, risingFrom, fallingFrom, patternFits, pinFits}
@@ -52,10 +52,7 @@ store-1 =
 abbrev pub call-1 : String
 call-1 = "3200020000000100030004415554481d74521c5f64acdeef8443dc620614121417368a4377e99271296162acba741f"
 
-pub step-1 : answers store-0 call-1
-    "01"
-    "00000000000000000000000000000000000000000000000000000000000000000000000000"
-    store-1
+pub step-1 : answers store-0 call-1 "01" "00000000000000000000000000000000000000000000000000000000000000000000000000" store-1
 unfolding zerosFor padded initial wordAt mixed nextWord schedule T1 T2 round rounds sums compressed after SHA256 filled keyBlock xored HMAC same perform moved advance sessionAct sessionStep userStep step judged written answer freshCounter formatted byte two four part over stringAt behind textAt allWithin stale effect holds shut sealed closing carryOut closedLiterally only macUnder pukRecord makePukBy policyRecord makePolicyBy keyRecord makeKeyBy certified setPathBy pinCheck pukCheck clear addOne pinMissed pinHit pukMissed pukHit look pendingRecord postBy recordsOf records joined at block zeros isFree sessionRecord counted createSession closeBy abortSession lengthFits sound obeysTable alphanumeric utf8From formatFits twoEqualFrom threeEqualFrom risingFrom fallingFrom patternFits pinFits deleteKey unlockKey newPin changed changePin useKey
 step-1 = refl
 
@@ -75,10 +72,7 @@ store-2 =
 abbrev pub call-2 : String
 call-2 = "330003000000010003000441555448270c579b85280ce8aec9fb0068d37c484d8b437286e3282052a8ca1fc95b4c33"
 
-pub step-2 : answers store-1 call-2
-    "01"
-    "00000000000000000000000000000000000000000000000000000000000000000000000000"
-    store-2
+pub step-2 : answers store-1 call-2 "01" "00000000000000000000000000000000000000000000000000000000000000000000000000" store-2
 unfolding zerosFor padded initial wordAt mixed nextWord schedule T1 T2 round rounds sums compressed after SHA256 filled keyBlock xored HMAC same perform moved advance sessionAct sessionStep userStep step judged written answer freshCounter formatted byte two four part over stringAt behind textAt allWithin stale effect holds shut sealed closing carryOut closedLiterally only macUnder pukRecord makePukBy policyRecord makePolicyBy keyRecord makeKeyBy certified setPathBy pinCheck pukCheck clear addOne pinMissed pinHit pukMissed pukHit look pendingRecord postBy recordsOf records joined at block zeros isFree sessionRecord counted createSession closeBy abortSession lengthFits sound obeysTable alphanumeric utf8From formatFits twoEqualFrom threeEqualFrom risingFrom fallingFrom patternFits pinFits deleteKey unlockKey newPin changed changePin useKey
 step-2 = refl
 
@@ -98,10 +92,7 @@ store-3 =
 abbrev pub call-3 : String
 call-3 = "030003000000014e74b5d5c5cf09eb722334f7e214eccd5756ca8de191585622b7a9a4e10483deef"
 
-pub step-3 : answers store-2 call-3
-    ""
-    "0000000000bcac16ec272f371a499fb75de1e5e613ce1189b862cf1308e6e1e0e28786b074"
-    store-3
+pub step-3 : answers store-2 call-3 "" "0000000000bcac16ec272f371a499fb75de1e5e613ce1189b862cf1308e6e1e0e28786b074" store-3
 unfolding zerosFor padded initial wordAt mixed nextWord schedule T1 T2 round rounds sums compressed after SHA256 filled keyBlock xored HMAC same perform moved advance sessionAct sessionStep userStep step judged written answer freshCounter formatted byte two four part over stringAt behind textAt allWithin stale effect holds shut sealed closing carryOut closedLiterally only macUnder pukRecord makePukBy policyRecord makePolicyBy keyRecord makeKeyBy certified setPathBy pinCheck pukCheck clear addOne pinMissed pinHit pukMissed pukHit look pendingRecord postBy recordsOf records joined at block zeros isFree sessionRecord counted createSession closeBy abortSession lengthFits sound obeysTable alphanumeric utf8From formatFits twoEqualFrom threeEqualFrom risingFrom fallingFrom patternFits pinFits deleteKey unlockKey newPin changed changePin useKey
 step-3 = refl
 
@@ -121,10 +112,7 @@ store-4 =
 abbrev pub call-4 : String
 call-4 = "030002000000014e61b754bd073c01f8b1b55c42e58aa1f0daf4d805b5632365b4b08a69ab4dd315"
 
-pub step-4 : answers store-3 call-4
-    ""
-    "06000000000000000000000000000000000000000000000000000000000000000000000000"
-    store-4
+pub step-4 : answers store-3 call-4 "" "06000000000000000000000000000000000000000000000000000000000000000000000000" store-4
 unfolding zerosFor padded initial wordAt mixed nextWord schedule T1 T2 round rounds sums compressed after SHA256 filled keyBlock xored HMAC same perform moved advance sessionAct sessionStep userStep step judged written answer freshCounter formatted byte two four part over stringAt behind textAt allWithin stale effect holds shut sealed closing carryOut closedLiterally only macUnder pukRecord makePukBy policyRecord makePolicyBy keyRecord makeKeyBy certified setPathBy pinCheck pukCheck clear addOne pinMissed pinHit pukMissed pukHit look pendingRecord postBy recordsOf records joined at block zeros isFree sessionRecord counted createSession closeBy abortSession lengthFits sound obeysTable alphanumeric utf8From formatFits twoEqualFrom threeEqualFrom risingFrom fallingFrom patternFits pinFits deleteKey unlockKey newPin changed changePin useKey
 step-4 = refl
 
@@ -144,9 +132,6 @@ store-5 =
 abbrev pub call-5 : String
 call-5 = "6400010003000431323435"
 
-pub step-5 : answers store-4 call-5
-    ""
-    "00000000000000000000000000000000000000000000000000000000000000000000000000"
-    store-5
+pub step-5 : answers store-4 call-5 "" "00000000000000000000000000000000000000000000000000000000000000000000000000" store-5
 unfolding zerosFor padded initial wordAt mixed nextWord schedule T1 T2 round rounds sums compressed after SHA256 filled keyBlock xored HMAC same perform moved advance sessionAct sessionStep userStep step judged written answer freshCounter formatted byte two four part over stringAt behind textAt allWithin stale effect holds shut sealed closing carryOut closedLiterally only macUnder pukRecord makePukBy policyRecord makePolicyBy keyRecord makeKeyBy certified setPathBy pinCheck pukCheck clear addOne pinMissed pinHit pukMissed pukHit look pendingRecord postBy recordsOf records joined at block zeros isFree sessionRecord counted createSession closeBy abortSession lengthFits sound obeysTable alphanumeric utf8From formatFits twoEqualFrom threeEqualFrom risingFrom fallingFrom patternFits pinFits deleteKey unlockKey newPin changed changePin useKey
 step-5 = refl

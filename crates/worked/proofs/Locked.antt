@@ -12,11 +12,11 @@ use Rattle.paper.specs.Bytes.{byte, two, four, part, over, stringAt, behind, te
 use Rattle.paper.specs.Closing.{stale, effect, holds, shut, sealed, closing, carryOut, closedLiterally}
 use Rattle.paper.specs.Form.{only}
 use Rattle.paper.specs.Mac.{macUnder}
-use Rattle.paper.specs.Objects.{pukRecord, policyRecord, keyRecord, certified, makePolicyBy, makePukBy, makeKeyBy, setPathBy}
+use Rattle.paper.specs.Objects.{pukRecord, makePukBy, policyRecord, makePolicyBy, keyRecord, makeKeyBy, certified, setPathBy}
 use Rattle.paper.specs.Pin.{pinCheck, pukCheck, clear, addOne, pinMissed, pinHit, pukMissed, pukHit}
 use Rattle.paper.specs.Posting.{look, pendingRecord, postBy}
 use Rattle.paper.specs.Records.{recordsOf, records, joined, at, block, zeros, isFree}
-use Rattle.paper.specs.Sessions.{sessionRecord, counted, createSession, abortSession, closeBy}
+use Rattle.paper.specs.Sessions.{sessionRecord, counted, createSession, closeBy, abortSession}
 use Rattle.paper.specs.Sound.{lengthFits, sound}
 use Rattle.paper.specs.Table.{obeysTable}
 use Rattle.paper.specs.Text.{alphanumeric, utf8From, formatFits, twoEqualFrom, threeEqualFrom, risingFrom, fallingFrom, patternFits, pinFits}
@@ -44,10 +44,7 @@ store-1 =
 abbrev pub call-1 : String
 call-1 = "6400010003000439393939"
 
-pub step-1 : answers store-0 call-1
-    ""
-    "01000000000000000000000000000000000000000000000000000000000000000000000000"
-    store-1
+pub step-1 : answers store-0 call-1 "" "01000000000000000000000000000000000000000000000000000000000000000000000000" store-1
 unfolding zerosFor padded initial wordAt mixed nextWord schedule T1 T2 round rounds sums compressed after SHA256 filled keyBlock xored HMAC same perform moved advance sessionAct sessionStep userStep step judged written answer freshCounter formatted byte two four part over stringAt behind textAt allWithin stale effect holds shut sealed closing carryOut closedLiterally only macUnder pukRecord makePukBy policyRecord makePolicyBy keyRecord makeKeyBy certified setPathBy pinCheck pukCheck clear addOne pinMissed pinHit pukMissed pukHit look pendingRecord postBy recordsOf records joined at block zeros isFree sessionRecord counted createSession closeBy abortSession lengthFits sound obeysTable alphanumeric utf8From formatFits twoEqualFrom threeEqualFrom risingFrom fallingFrom patternFits pinFits deleteKey unlockKey newPin changed changePin useKey
 step-1 = refl
 
@@ -63,10 +60,7 @@ store-2 =
 abbrev pub call-2 : String
 call-2 = "6400010003000431323435"
 
-pub step-2 : answers store-1 call-2
-    ""
-    "00000000000000000000000000000000000000000000000000000000000000000000000000"
-    store-2
+pub step-2 : answers store-1 call-2 "" "00000000000000000000000000000000000000000000000000000000000000000000000000" store-2
 unfolding zerosFor padded initial wordAt mixed nextWord schedule T1 T2 round rounds sums compressed after SHA256 filled keyBlock xored HMAC same perform moved advance sessionAct sessionStep userStep step judged written answer freshCounter formatted byte two four part over stringAt behind textAt allWithin stale effect holds shut sealed closing carryOut closedLiterally only macUnder pukRecord makePukBy policyRecord makePolicyBy keyRecord makeKeyBy certified setPathBy pinCheck pukCheck clear addOne pinMissed pinHit pukMissed pukHit look pendingRecord postBy recordsOf records joined at block zeros isFree sessionRecord counted createSession closeBy abortSession lengthFits sound obeysTable alphanumeric utf8From formatFits twoEqualFrom threeEqualFrom risingFrom fallingFrom patternFits pinFits deleteKey unlockKey newPin changed changePin useKey
 step-2 = refl
 
@@ -82,10 +76,7 @@ store-3 =
 abbrev pub call-3 : String
 call-3 = "6400010003000439393939"
 
-pub step-3 : answers store-2 call-3
-    ""
-    "01000000000000000000000000000000000000000000000000000000000000000000000000"
-    store-3
+pub step-3 : answers store-2 call-3 "" "01000000000000000000000000000000000000000000000000000000000000000000000000" store-3
 unfolding zerosFor padded initial wordAt mixed nextWord schedule T1 T2 round rounds sums compressed after SHA256 filled keyBlock xored HMAC same perform moved advance sessionAct sessionStep userStep step judged written answer freshCounter formatted byte two four part over stringAt behind textAt allWithin stale effect holds shut sealed closing carryOut closedLiterally only macUnder pukRecord makePukBy policyRecord makePolicyBy keyRecord makeKeyBy certified setPathBy pinCheck pukCheck clear addOne pinMissed pinHit pukMissed pukHit look pendingRecord postBy recordsOf records joined at block zeros isFree sessionRecord counted createSession closeBy abortSession lengthFits sound obeysTable alphanumeric utf8From formatFits twoEqualFrom threeEqualFrom risingFrom fallingFrom patternFits pinFits deleteKey unlockKey newPin changed changePin useKey
 step-3 = refl
 
@@ -101,10 +92,7 @@ store-4 =
 abbrev pub call-4 : String
 call-4 = "6400010003000439393939"
 
-pub step-4 : answers store-3 call-4
-    ""
-    "01000000000000000000000000000000000000000000000000000000000000000000000000"
-    store-4
+pub step-4 : answers store-3 call-4 "" "01000000000000000000000000000000000000000000000000000000000000000000000000" store-4
 unfolding zerosFor padded initial wordAt mixed nextWord schedule T1 T2 round rounds sums compressed after SHA256 filled keyBlock xored HMAC same perform moved advance sessionAct sessionStep userStep step judged written answer freshCounter formatted byte two four part over stringAt behind textAt allWithin stale effect holds shut sealed closing carryOut closedLiterally only macUnder pukRecord makePukBy policyRecord makePolicyBy keyRecord makeKeyBy certified setPathBy pinCheck pukCheck clear addOne pinMissed pinHit pukMissed pukHit look pendingRecord postBy recordsOf records joined at block zeros isFree sessionRecord counted createSession closeBy abortSession lengthFits sound obeysTable alphanumeric utf8From formatFits twoEqualFrom threeEqualFrom risingFrom fallingFrom patternFits pinFits deleteKey unlockKey newPin changed changePin useKey
 step-4 = refl
 
@@ -120,10 +108,7 @@ store-5 =
 abbrev pub call-5 : String
 call-5 = "6400010003000439393939"
 
-pub step-5 : answers store-4 call-5
-    ""
-    "01000000000000000000000000000000000000000000000000000000000000000000000000"
-    store-5
+pub step-5 : answers store-4 call-5 "" "01000000000000000000000000000000000000000000000000000000000000000000000000" store-5
 unfolding zerosFor padded initial wordAt mixed nextWord schedule T1 T2 round rounds sums compressed after SHA256 filled keyBlock xored HMAC same perform moved advance sessionAct sessionStep userStep step judged written answer freshCounter formatted byte two four part over stringAt behind textAt allWithin stale effect holds shut sealed closing carryOut closedLiterally only macUnder pukRecord makePukBy policyRecord makePolicyBy keyRecord makeKeyBy certified setPathBy pinCheck pukCheck clear addOne pinMissed pinHit pukMissed pukHit look pendingRecord postBy recordsOf records joined at block zeros isFree sessionRecord counted createSession closeBy abortSession lengthFits sound obeysTable alphanumeric utf8From formatFits twoEqualFrom threeEqualFrom risingFrom fallingFrom patternFits pinFits deleteKey unlockKey newPin changed changePin useKey
 step-5 = refl
 
@@ -139,10 +124,7 @@ store-6 =
 abbrev pub call-6 : String
 call-6 = "6400010003000431323435"
 
-pub step-6 : answers store-5 call-6
-    ""
-    "01000000000000000000000000000000000000000000000000000000000000000000000000"
-    store-6
+pub step-6 : answers store-5 call-6 "" "01000000000000000000000000000000000000000000000000000000000000000000000000" store-6
 unfolding zerosFor padded initial wordAt mixed nextWord schedule T1 T2 round rounds sums compressed after SHA256 filled keyBlock xored HMAC same perform moved advance sessionAct sessionStep userStep step judged written answer freshCounter formatted byte two four part over stringAt behind textAt allWithin stale effect holds shut sealed closing carryOut closedLiterally only macUnder pukRecord makePukBy policyRecord makePolicyBy keyRecord makeKeyBy certified setPathBy pinCheck pukCheck clear addOne pinMissed pinHit pukMissed pukHit look pendingRecord postBy recordsOf records joined at block zeros isFree sessionRecord counted createSession closeBy abortSession lengthFits sound obeysTable alphanumeric utf8From formatFits twoEqualFrom threeEqualFrom risingFrom fallingFrom patternFits pinFits deleteKey unlockKey newPin changed changePin useKey
 step-6 = refl
 
@@ -158,10 +140,7 @@ store-7 =
 abbrev pub call-7 : String
 call-7 = "5200010003000130"
 
-pub step-7 : answers store-6 call-7
-    ""
-    "01000000000000000000000000000000000000000000000000000000000000000000000000"
-    store-7
+pub step-7 : answers store-6 call-7 "" "01000000000000000000000000000000000000000000000000000000000000000000000000" store-7
 unfolding zerosFor padded initial wordAt mixed nextWord schedule T1 T2 round rounds sums compressed after SHA256 filled keyBlock xored HMAC same perform moved advance sessionAct sessionStep userStep step judged written answer freshCounter formatted byte two four part over stringAt behind textAt allWithin stale effect holds shut sealed closing carryOut closedLiterally only macUnder pukRecord makePukBy policyRecord makePolicyBy keyRecord makeKeyBy certified setPathBy pinCheck pukCheck clear addOne pinMissed pinHit pukMissed pukHit look pendingRecord postBy recordsOf records joined at block zeros isFree sessionRecord counted createSession closeBy abortSession lengthFits sound obeysTable alphanumeric utf8From formatFits twoEqualFrom threeEqualFrom risingFrom fallingFrom patternFits pinFits deleteKey unlockKey newPin changed changePin useKey
 step-7 = refl
 
@@ -177,9 +156,6 @@ store-8 =
 abbrev pub call-8 : String
 call-8 = "520001000300083132333435363738"
 
-pub step-8 : answers store-7 call-8
-    ""
-    "00000000000000000000000000000000000000000000000000000000000000000000000000"
-    store-8
+pub step-8 : answers store-7 call-8 "" "00000000000000000000000000000000000000000000000000000000000000000000000000" store-8
 unfolding zerosFor padded initial wordAt mixed nextWord schedule T1 T2 round rounds sums compressed after SHA256 filled keyBlock xored HMAC same perform moved advance sessionAct sessionStep userStep step judged written answer freshCounter formatted byte two four part over stringAt behind textAt allWithin stale effect holds shut sealed closing carryOut closedLiterally only macUnder pukRecord makePukBy policyRecord makePolicyBy keyRecord makeKeyBy certified setPathBy pinCheck pukCheck clear addOne pinMissed pinHit pukMissed pukHit look pendingRecord postBy recordsOf records joined at block zeros isFree sessionRecord counted createSession closeBy abortSession lengthFits sound obeysTable alphanumeric utf8From formatFits twoEqualFrom threeEqualFrom risingFrom fallingFrom patternFits pinFits deleteKey unlockKey newPin changed changePin useKey
 step-8 = refl

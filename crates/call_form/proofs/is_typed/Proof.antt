@@ -4,11 +4,7 @@ use Rattle.call_form.proofs.is_typed.Statement.{statement}
 use Rattle.call_form.proofs.is_typed.Tie as tie
 
 returns : tie.Need-returns
-returns c =
-    let typed-fields = c .before .before .before .before .typed-fields in
-    let has-length = c .before .before .before .has-length in
-    let both = c .before .both in
-    rw (c .both2 .ensures, both .ensures, has-length .ensures, typed-fields .ensures)
+returns c = rw (c .before .has-length .ensures, c .before .before .typed-fields .ensures)
 
 pub is-typed-spec : {M : Type 1} → statement M
-is-typed-spec = tie.close (tie.spec (λ c κs. search needs) (λ c κs. search needs) (λ c κs. search needs) (λ c κs. search needs) returns)
+is-typed-spec = tie.close (tie.spec (λ c κs. search needs) (λ c. search needs) (λ c κs. search needs) returns)

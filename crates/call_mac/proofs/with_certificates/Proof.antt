@@ -27,9 +27,9 @@ loop-again c =
     let args = c .before .before .before .before .before .before .args in
     let loop = c .before .before .before .before .loop in
     let loop-test = c .before .before .before .loop-test in
-    let string-at = c .before .before .string-at in
+    let string-in = c .before .before .string-in in
     let with-string = c .before .with-string in
-    ((λ k text h. let w = loop .inv .0 k text h in (w .0 ++ string (string-at .result .now), with-string .ensures k (w .0) (w .1), rw (string-at .ensures, c .two-at .ensures .0) (sym (certificates-more (w .0) (args .c .now) (loop .left) (loop .at) (loop-test .taken)) ∙ w .2))), omega arith)
+    ((λ k text h. let w = loop .inv .0 k text h in (w .0 ++ string (string-in .result .now), with-string .ensures k (w .0) (w .1), rw (string-in .ensures, c .two-at .ensures .0) (sym (certificates-more (w .0) (args .c .now) (loop .left) (loop .at) (loop-test .taken)) ∙ w .2))), omega arith)
 
 returns : tie.Need-returns Inv-loop μ-loop
 returns c =

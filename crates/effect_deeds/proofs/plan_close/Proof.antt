@@ -1,6 +1,7 @@
 -- Invariant: the first i numbers are those of the close, the others still those of its keys' plan (`shut-step`).
 use Prim.Native.Nat.{_-_, _/_, _<_, _≤_}
 use Rattle.effect_deeds.proofs.Planning.{Shutting, shut-start, shut-step, shut-done}
+use Rattle.effect_plan.proofs.Filled.{plan-at}
 use Rattle.paper.specs.Bytes.{byte}
 use Rattle.paper.specs.Records.{records}
 use Rattle.store_records.proofs.Views.{length-records}
@@ -18,7 +19,7 @@ abbrev μ-loop : tie.MeasureT-loop
 μ-loop store t p₀ n i₀ p i = length store / 256 - i
 
 loop-holds : tie.Need-loop-holds Inv-loop μ-loop
-loop-holds c = let l : length (c .plan-of .result) ≡ 256 = search needs in shut-start (c .before .before .before .before .args .t) (c .before .before .before .before .args .store .now) (c .plan-of .result) _ _ l (c .before .before .before .before .pre) (c .before .before .held-keys .ensures) (c .before .held-keys2 .ensures) (c .plan-of .ensures)
+loop-holds c = let l : length (c .plan-of .result) ≡ 256 = search needs in shut-start (c .before .before .before .before .args .t) (c .before .before .before .before .args .store .now) (c .plan-of .result) _ _ l (c .before .before .before .before .pre) (c .before .before .held-keys .ensures) (c .before .held-keys2 .ensures) (plan-at _ _ _ (c .plan-of .ensures))
 
 loop-again : tie.Need-loop-again Inv-loop μ-loop
 unfolding byte

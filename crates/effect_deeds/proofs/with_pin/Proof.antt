@@ -10,4 +10,5 @@ returns c = rw (c .with-bytes3 .ensures, c .before .with-bytes2 .ensures, c .bef
 pub with-pin-spec : {M : Type 1} → statement M
 with-pin-spec =
     tie.close
-    (tie.spec (λ c. search needs) (λ c. search needs) (λ c κs. search needs) (λ c. search needs) (λ c κs. search needs) (λ c κs. search needs) returns)
+    (tie.spec (λ c. search needs) (λ c. search needs) (λ c. search needs) (λ c κs. search needs) (λ c. search needs) (λ c κs. search needs)
+    (λ c κs. search needs) returns)

@@ -1,8 +1,7 @@
 -- Invariant: what is done and what is to do make up the whole edit (`todo-step`, `todo-done`).
-use borrow.Author.Needs.{needs}
+use mathlib.Core.Path.{refl}
 use Prim.Native.Nat.{_-_, _/_}
 use lib.ListN.{length}
-use mathlib.Core.Path.{refl}
 use Rattle.paper.specs.Form.{only}
 use Rattle.paper.specs.Records.{KEY, is}
 use Rattle.paper.specs.Objects.{certified}
@@ -17,19 +16,11 @@ Inv-loop s₀ k t d n i₀ s i = Todo (only (is KEY k t) (certified d)) s₀ s i
 abbrev μ-loop : tie.MeasureT-loop
 μ-loop s₀ k t d n i₀ s i = length s₀ / 256 - i
 
-loop-holds : tie.Need-loop-holds Inv-loop μ-loop
-loop-holds c = record { left = refl; tail = refl; same = refl }
-
 loop-again : tie.Need-loop-again Inv-loop μ-loop
 loop-again c = todo-step (c .before .before .before .before .before .loop .inv) _ (c .before .before .before .before .loop-test .taken) (c .before .before .certify-at .ensures) (c .before .before .certify-at .kept .0)
-
-same-length : tie.Need-same-length Inv-loop μ-loop
-same-length c = c .before .loop .inv .same
-
-returns : tie.Need-returns Inv-loop μ-loop
-returns c = todo-done (c .before .loop .inv) (c .loop-test .left)
 
 pub certify-spec : {M : Type 1} → statement M
 certify-spec =
     tie.close
-    (tie.spec Inv-loop μ-loop loop-holds (λ c κs. search needs) (λ c. search needs) (λ c. search needs) loop-again same-length returns)
+    (tie.spec Inv-loop μ-loop (λ c. record { left = refl; tail = refl; same = refl }) (λ c κs. search needs) (λ c. search needs) (λ c. search needs)
+    loop-again (λ c. c .before .loop .inv .same) (λ c. todo-done (c .before .loop .inv) (c .loop-test .left)))

@@ -6,7 +6,7 @@ use Rattle.paper.specs.Form.{test, some}
 use Rattle.paper.specs.Records.{records}
 use Rattle.store_records.proofs.Places.{told}
 use Rattle.method_acts.proofs.Blocks.{some-block, some-here, some-next, some-end}
-use Rattle.method_keys.specs.KeyLadder.{otherPin, unlikeIn}
+use Rattle.method_keys.specs.Keys.{otherPin, unlikeIn}
 use borrow.Author.Needs.{needs}
 use Rattle.method_keys.proofs.has_unlike.Statement.{statement}
 use Rattle.method_keys.proofs.has_unlike.Tie as tie
@@ -24,8 +24,8 @@ returns c =
     let loop-test = c .before .before .before .loop-test in
     let record-at = c .before .before .record-at in
     let is-unlike = c .before .is-unlike in
-    let φ = unlikeIn (args .t) (args .pol .now) (args .pin .now) in
-    sym (sym (some-block (args .t) (otherPin (args .pol .now) (args .pin .now)) (records (args .s .now))) ∙ loop .inv ∙ some-here φ (args .s .now) _ (loop-test .taken) (told φ (record-at .ensures) (is-unlike .ensures) (c .if1 .taken)))
+    let φ = unlikeIn (args .t) (args .pol .now) (args .v .now) in
+    sym (sym (some-block (args .t) (otherPin (args .pol .now) (args .v .now)) (records (args .s .now))) ∙ loop .inv ∙ some-here φ (args .s .now) _ (loop-test .taken) (told φ (record-at .ensures) (is-unlike .ensures) (c .if1 .taken)))
 
 loop-again : tie.Need-loop-again Inv-loop μ-loop
 loop-again c =
@@ -34,15 +34,15 @@ loop-again c =
     let loop-test = c .before .before .before .loop-test in
     let record-at = c .before .before .record-at in
     let is-unlike = c .before .is-unlike in
-    let φ = unlikeIn (args .t) (args .pol .now) (args .pin .now) in
+    let φ = unlikeIn (args .t) (args .pol .now) (args .v .now) in
     loop .inv ∙ some-next φ (args .s .now) _ (loop-test .taken) (told φ (record-at .ensures) (is-unlike .ensures) (c .if1 .left))
 
 returns-2 : tie.Need-returns-2 Inv-loop μ-loop
 returns-2 c =
     let args = c .before .before .before .before .before .args in
     let loop = c .before .loop in
-    let φ = unlikeIn (args .t) (args .pol .now) (args .pin .now) in
-    sym (sym (some-block (args .t) (otherPin (args .pol .now) (args .pin .now)) (records (args .s .now))) ∙ loop .inv ∙ some-end φ (args .s .now) _ (c .loop-test .left))
+    let φ = unlikeIn (args .t) (args .pol .now) (args .v .now) in
+    sym (sym (some-block (args .t) (otherPin (args .pol .now) (args .v .now)) (records (args .s .now))) ∙ loop .inv ∙ some-end φ (args .s .now) _ (c .loop-test .left))
 
 pub has-unlike-spec : {M : Type 1} → statement M
 has-unlike-spec =

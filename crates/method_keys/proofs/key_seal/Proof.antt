@@ -4,11 +4,7 @@ use Rattle.method_keys.proofs.key_seal.Statement.{statement}
 use Rattle.method_keys.proofs.key_seal.Tie as tie
 
 returns : tie.Need-returns
-returns c =
-    let key-fields = c .before .before .before .before .key-fields in
-    let of-key = c .before .before .before .of-key in
-    let part-of = c .before .before .part-of in
-    rw (part-of .ensures, of-key .ensures, key-fields .ensures) at (c .seal .ensures)
+returns c = rw (c .before .before .part-of .ensures, c .before .before .before .of-key .ensures) at (c .seal .ensures)
 
 pub key-seal-spec : {M : Type 1} → statement M
-key-seal-spec = tie.close (tie.spec (λ c κs. search needs) (λ c κs. search needs) (λ c κs. search needs) (λ c κs. search needs) returns)
+key-seal-spec = tie.close (tie.spec (λ c κs. search needs) (λ c κs. search needs) (λ c κs. search needs) returns)

@@ -1,13 +1,9 @@
 -- Invariant: the first i bytes of the digest are written over (`over-more`).
+use mathlib.Core.Path.{_≡_, refl, ap, _∙_}
 use mathlib.Core.List.{List}
-use Prim.Native.Nat.{ℕ, _+_}
-use mathlib.Core.Path.{ap}
-use lib.ListN.{getD, set, length-set}
-use borrow.Author.Needs.{needs}
-use mathlib.Core.Path.{_≡_, refl, _∙_}
-use Prim.Native.Nat.{_-_, _≤_, _<_}
+use Prim.Native.Nat.{ℕ, _+_, _-_, _≤_, _<_}
 use native.Mathlib.Omega.{arith}
-use lib.ListN.{length, take}
+use lib.ListN.{length, take, getD, set, length-set}
 use lib.Seq.{sets, take-all}
 use Rattle.paper.specs.Bytes.{over}
 use Rattle.method_keys.proofs.Paths.{over-more}

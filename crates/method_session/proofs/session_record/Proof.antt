@@ -12,27 +12,24 @@ use Rattle.method_session.proofs.session_record.Tie as tie
 returns : tie.Need-returns
 unfolding sessionRecord
 returns c =
-    let args = c .before .before .before .before .before .before .before .before .before .before .before .before .before .before .before .before .before .before .before .before .args in
-    let create-fields = c .before .before .before .before .before .before .before .before .before .before .before .before .before .before .before .before .before .create-fields in
+    let args = c .before .before .before .before .before .before .before .before .before .before .before .before .before .before .before .before .before .before .before .args in
+    let byte2 = c .before .before .before .before .byte2 in
+    let byte = c .before .before .before .before .before .before .before .byte in
+    let two2 = c .before .before .before .before .before .before .before .before .two2 in
+    let two = c .before .before .before .before .before .before .before .before .before .two in
+    let bytes = c .before .before .before .before .before .before .before .before .before .before .bytes in
+    let padded2 = c .before .before .before .before .before .before .before .before .before .before .before .before .padded2 in
+    let padded = c .before .before .before .before .before .before .before .before .before .before .before .before .before .before .padded in
     let head = c .before .before .before .before .before .before .before .before .before .before .before .before .before .before .before .before .head in
     let string-at = c .before .before .before .before .before .before .before .before .before .before .before .before .before .before .before .string-at in
-    let padded = c .before .before .before .before .before .before .before .before .before .before .before .before .before .before .padded in
     let string-at2 = c .before .before .before .before .before .before .before .before .before .before .before .before .before .string-at2 in
-    let padded2 = c .before .before .before .before .before .before .before .before .before .before .before .before .padded2 in
     let part-of = c .before .before .before .before .before .before .before .before .before .before .before .part-of in
-    let bytes = c .before .before .before .before .before .before .before .before .before .before .bytes in
-    let two = c .before .before .before .before .before .before .before .before .before .two in
-    let two2 = c .before .before .before .before .before .before .before .before .two2 in
-    let byte = c .before .before .before .before .before .before .before .byte in
-    let string-at3 = c .before .before .before .before .before .before .string-at3 in
     let given = c .before .before .before .before .before .given in
-    let byte2 = c .before .before .before .before .byte2 in
-    let part-of2 = c .before .before .before .part-of2 in
-    let bytes2 = c .before .before .bytes2 in
-    let zeros = c .before .zeros in
+    let string-at3 = c .before .before .before .before .before .before .string-at3 in
+    let pre = c .before .before .before .before .before .before .before .before .before .before .before .before .before .before .before .before .before .before .before .pre in
     let q = createIn (args .c .now) (args .chip .now) in
-    c .finish .ensures _ (zeros .ensures _ (bytes2 .ensures _ (byte2 .ensures _ (byte .ensures _ (two2 .ensures _ (two .ensures _ (bytes .ensures _ (padded2 .ensures _ (padded .ensures _ (head .ensures))))))))))
-    ∙ rw (string-at .ensures, string-at2 .ensures, part-of .ensures, given .ensures, string-at3 .ensures, part-of2 .ensures, create-fields .ensures)
+    c .finish .ensures _ (c .before .zeros .ensures _ (c .before .before .bytes2 .ensures _ (byte2 .ensures _ (byte .ensures _ (two2 .ensures _ (two .ensures _ (bytes .ensures _ (padded2 .ensures _ (padded .ensures _ (head .ensures))))))))))
+    ∙ rw (string-at .ensures, string-at2 .ensures, part-of .ensures, given .ensures, string-at3 .ensures, c .before .before .before .part-of2 .ensures, pre)
     (laid-grown (headed 1 1 0 1 (args .h) (args .h) 0) (paddedTo 32 (q .server) ∷ paddedTo 32 (q .client) ∷ q .key ∷ enc2 0 ∷ enc2 (q .limit) ∷ (q .privacy ∷ []) ∷ (givenIf (q .management) ∷ []) ∷ q .times ∷ zerosOf 128 ∷ []))
 
 pub session-record-spec : {M : Type 1} → statement M
@@ -40,5 +37,4 @@ session-record-spec =
     tie.close
     (tie.spec (λ c κs. search needs) (λ c κs. search needs) (λ c κs. search needs) (λ c κs. search needs) (λ c κs. search needs)
     (λ c κs. search needs) (λ c κs. search needs) (λ c κs. search needs) (λ c κs. search needs) (λ c κs. search needs) (λ c κs. search needs)
-    (λ c κs. search needs) (λ c κs. search needs) (λ c κs. search needs) (λ c κs. search needs) (λ c κs. search needs) (λ c κs. search needs)
-    (λ c κs. search needs) returns)
+    (λ c κs. search needs) (λ c κs. search needs) (λ c κs. search needs) (λ c κs. search needs) (λ c κs. search needs) (λ c κs. search needs) returns)

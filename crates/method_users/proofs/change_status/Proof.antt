@@ -1,34 +1,20 @@
 -- The rungs are those of the paper's list, in its order (`climbed`).
 use mathlib.Core.Path.{refl}
-use Rattle.paper.specs.Records.{records}
+use Rattle.paper.specs.Calls.{subject}
+use Rattle.paper.specs.Posting.{target}
 use Rattle.method_acts.proofs.Climbs.{climbed}
-use Rattle.method_users.specs.Faults.{faults83}
+use Rattle.paper.specs.Users.{changeFaults}
 use borrow.Author.Needs.{needs}
 use Rattle.method_users.proofs.change_status.Statement.{statement}
 use Rattle.method_users.proofs.change_status.Tie as tie
 
 returns : tie.Need-returns
 returns c =
-    let args = c .before .before .before .before .before .before .before .before .before .before .before .before .before .before .before .before .before .args in
-    let four-at = c .before .before .before .before .before .before .before .before .before .before .before .before .before .four-at in
-    let target = c .before .before .before .before .before .before .before .before .before .before .before .before .target in
-    let policy-of = c .before .before .before .before .before .before .before .before .before .before .before .policy-of in
-    let is-change = c .before .before .before .before .before .before .before .before .before .before .is-change in
-    let fault = c .before .before .before .before .before .before .before .before .before .fault in
-    let is-target = c .before .before .before .before .before .before .before .before .is-target in
-    let fault2 = c .before .before .before .before .before .before .before .fault2 in
-    let four-at2 = c .before .before .before .before .before .before .four-at2 in
-    let fault3 = c .before .before .before .before .before .fault3 in
-    let byte-at = c .before .before .before .before .byte-at in
-    let fault4 = c .before .before .before .fault4 in
-    let new-pin = c .before .before .new-pin in
-    let pin-fits = c .before .pin-fits in
-    rw (c .fault5 .ensures, fault4 .ensures, fault3 .ensures, fault2 .ensures, fault .ensures, pin-fits .ensures, new-pin .ensures, byte-at .ensures, four-at2 .ensures, is-target .ensures, is-change .ensures, policy-of .ensures, target .ensures, four-at .ensures)
-    (climbed (faults83 (args .c .now) (args .chip .now) (records (args .store .now))) refl)
+    let a = c .before .before .before .before .before .before .before .before .before .before .before .before .before .before .before .before .args in
+    λ rs s. rw (c .fault5 .ensures, c .before .before .before .fault4 .ensures, c .before .before .before .before .before .fault3 .ensures, c .before .before .before .before .before .before .before .fault2 .ensures, c .before .before .before .before .before .before .before .before .before .fault .ensures, c .before .pin-fits .ensures, c .before .before .new-pin .ensures, c .before .before .before .before .before .before .before .before .is-reached .ensures, c .before .before .before .before .before .before .before .before .before .before .is-change .ensures, c .before .before .before .before .byte-at .ensures, c .before .before .before .before .before .before .four-at .ensures, s .key, s .home) (climbed (changeFaults (a .c .now) (a .chip .now) (target (subject (a .c .now)) rs) (a .pol .now) rs) refl)
 
 pub change-status-spec : {M : Type 1} → statement M
 change-status-spec =
     tie.close
     (tie.spec (λ c κs. search needs) (λ c κs. search needs) (λ c κs. search needs) (λ c κs. search needs) (λ c κs. search needs)
-    (λ c κs. search needs) (λ c κs. search needs) (λ c κs. search needs) (λ c κs. search needs) (λ c κs. search needs) (λ c κs. search needs)
-    (λ c κs. search needs) (λ c κs. search needs) (λ c κs. search needs) returns)
+    (λ c κs. search needs) (λ c κs. search needs) (λ c κs. search needs) (λ c κs. search needs) (λ c κs. search needs) (λ c κs. search needs) returns)

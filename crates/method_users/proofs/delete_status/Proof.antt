@@ -1,30 +1,20 @@
 -- The rungs are those of the paper's list, in its order (`climbed`).
 use mathlib.Core.Path.{refl}
-use Rattle.paper.specs.Records.{records}
+use Rattle.paper.specs.Calls.{subject}
+use Rattle.paper.specs.Posting.{target}
 use Rattle.method_acts.proofs.Climbs.{climbed}
-use Rattle.method_users.specs.Faults.{faults80}
+use Rattle.paper.specs.Users.{deleteFaults}
 use borrow.Author.Needs.{needs}
 use Rattle.method_users.proofs.delete_status.Statement.{statement}
 use Rattle.method_users.proofs.delete_status.Tie as tie
 
 returns : tie.Need-returns
 returns c =
-    let args = c .before .before .before .before .before .before .before .before .before .before .before .before .before .before .args in
-    let four-at = c .before .before .before .before .before .before .before .before .before .before .four-at in
-    let target = c .before .before .before .before .before .before .before .before .before .target in
-    let byte-at = c .before .before .before .before .before .before .before .before .byte-at in
-    let is-typed = c .before .before .before .before .before .before .before .is-typed in
-    let fault = c .before .before .before .before .before .before .fault in
-    let is-target = c .before .before .before .before .before .is-target in
-    let fault2 = c .before .before .before .before .fault2 in
-    let fault3 = c .before .before .before .fault3 in
-    let is-given = c .before .before .is-given in
-    let both = c .before .both in
-    rw (c .fault4 .ensures, fault3 .ensures, fault2 .ensures, fault .ensures, both .ensures, is-given .ensures, is-target .ensures, is-typed .ensures, byte-at .ensures, target .ensures, four-at .ensures)
-    (climbed (faults80 (args .c .now) (args .chip .now) (records (args .store .now))) refl)
+    let a = c .before .before .before .before .before .before .before .before .before .before .before .before .before .args in
+    λ rs s. rw (c .fault4 .ensures, c .before .before .before .fault3 .ensures, c .before .before .before .before .fault2 .ensures, c .before .before .before .before .before .before .fault .ensures, c .before .both .ensures, c .before .before .is-given .ensures, c .before .before .before .before .before .is-reached .ensures, c .before .before .before .before .before .before .before .is-typed .ensures, c .before .before .before .before .before .before .before .before .byte-at .ensures, s .key, s .home) (climbed (deleteFaults (a .c .now) (a .chip .now) (target (subject (a .c .now)) rs) rs) refl)
 
 pub delete-status-spec : {M : Type 1} → statement M
 delete-status-spec =
     tie.close
     (tie.spec (λ c κs. search needs) (λ c κs. search needs) (λ c κs. search needs) (λ c κs. search needs) (λ c κs. search needs)
-    (λ c κs. search needs) (λ c κs. search needs) (λ c κs. search needs) (λ c κs. search needs) (λ c κs. search needs) (λ c κs. search needs) returns)
+    (λ c κs. search needs) (λ c κs. search needs) (λ c κs. search needs) (λ c κs. search needs) returns)

@@ -4,12 +4,7 @@ use Rattle.method_users.proofs.is_without_puk.Statement.{statement}
 use Rattle.method_users.proofs.is_without_puk.Tie as tie
 
 returns : tie.Need-returns
-returns c =
-    let four-at = c .before .before .before .before .four-at in
-    let byte-at = c .before .before .before .byte-at in
-    let four-at2 = c .before .before .four-at2 in
-    let both = c .before .both in
-    rw (c .either .ensures, both .ensures, four-at .ensures, byte-at .ensures, four-at2 .ensures)
+returns c = rw (c .either .ensures, c .before .both .ensures, c .before .before .before .before .four-at .ensures, c .before .before .before .is-kind .ensures, c .before .before .four-at2 .ensures)
 
 pub is-without-puk-spec : {M : Type 1} → statement M
 is-without-puk-spec =

@@ -5,7 +5,7 @@ use Rattle.sound_alone.proofs.fits_free.Statement.{statement}
 use Rattle.sound_alone.proofs.fits_free.Tie as tie
 
 returns : tie.Need-returns
-returns c = simp (c .before .is-byte .ensures, c .blank-at .ensures, and-assoc, and-true)
+returns c = simp (c .before .is-byte .ensures, c .blank-to .ensures, and-assoc, and-true)
 
 pub fits-free-spec : {M : Type 1} → statement M
 fits-free-spec = tie.close (tie.spec (λ c κs. search needs) (λ c κs. search needs) returns)

@@ -5,10 +5,7 @@ use Rattle.sound_alone.proofs.fits_policy.Statement.{statement}
 use Rattle.sound_alone.proofs.fits_policy.Tie as tie
 
 returns : tie.Need-returns
-returns c = simp (c .before .before .before .before .before .before .before .before .before .before .is-byte .ensures, c .before .before .before .before .before .before .before .before .before .is-byte2 .ensures, c .before .before .before .before .before .before .before .before .is-byte3 .ensures, c .before .before .before .before .before .before .before .is-byte4 .ensures, c .before .before .before .before .before .before .is-byte5 .ensures, c .before .before .before .before .before .is-byte6 .ensures, c .before .before .before .before .is-byte7 .ensures, c .before .before .before .is-byte8 .ensures, c .before .before .is-byte9 .ensures, c .before .is-ident .ensures, c .blank-at .ensures, and-assoc, and-true)
+returns c = simp (c .before .before .before .before .before .before .before .before .before .before .is-byte .ensures, c .before .before .before .before .before .before .before .before .before .is-byte2 .ensures, c .before .before .before .before .before .before .before .before .is-byte3 .ensures, c .before .before .before .before .before .before .before .is-byte4 .ensures, c .before .before .before .before .before .before .is-byte5 .ensures, c .before .before .before .before .before .is-byte6 .ensures, c .before .before .before .before .is-byte7 .ensures, c .before .before .before .is-byte8 .ensures, c .before .before .is-byte9 .ensures, c .before .blank-to .ensures, c .is-ident .ensures, and-assoc, and-true)
 
 pub fits-policy-spec : {M : Type 1} → statement M
-fits-policy-spec =
-    tie.close
-    (tie.spec (λ c κs. search needs) (λ c κs. search needs) (λ c κs. search needs) (λ c κs. search needs) (λ c κs. search needs)
-    (λ c κs. search needs) (λ c κs. search needs) (λ c κs. search needs) (λ c κs. search needs) (λ c κs. search needs) (λ c κs. search needs) returns)
+fits-policy-spec = tie.close (tie.spec (λ c κs. search needs) (λ c κs. search needs) (λ c κs. search needs) (λ c κs. search needs) (λ c κs. search needs) (λ c κs. search needs) (λ c κs. search needs) (λ c κs. search needs) (λ c κs. search needs) (λ c κs. search needs) (λ c κs. search needs) returns)

@@ -5,10 +5,7 @@ use Rattle.sound_alone.proofs.fits_puk.Statement.{statement}
 use Rattle.sound_alone.proofs.fits_puk.Tie as tie
 
 returns : tie.Need-returns
-returns c = simp (c .before .before .before .before .before .is-byte .ensures, c .before .before .before .before .is-byte2 .ensures, c .before .before .before .blank-at .ensures, c .before .before .is-ident .ensures, c .before .is-text .ensures, c .blank-at2 .ensures, and-assoc, and-true)
+returns c = simp (c .before .before .before .before .before .is-byte .ensures, c .before .before .before .before .is-byte2 .ensures, c .before .before .before .blank-to .ensures, c .before .before .is-text .ensures, c .before .blank-to2 .ensures, c .is-ident .ensures, and-assoc, and-true)
 
 pub fits-puk-spec : {M : Type 1} → statement M
-fits-puk-spec =
-    tie.close
-    (tie.spec (λ c κs. search needs) (λ c κs. search needs) (λ c κs. search needs) (λ c κs. search needs) (λ c κs. search needs)
-    (λ c κs. search needs) returns)
+fits-puk-spec = tie.close (tie.spec (λ c κs. search needs) (λ c κs. search needs) (λ c κs. search needs) (λ c κs. search needs) (λ c κs. search needs) (λ c κs. search needs) returns)

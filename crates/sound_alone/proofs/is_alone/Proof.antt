@@ -10,7 +10,7 @@ returns : tie.Need-returns
 returns c = sym (untabled _ (sym (c .before .obeys .ensures) ∙ not-true _ (c .if1 .taken)))
 
 returns-2 : tie.Need-returns-2
-returns-2 c = rw (c .before .before .session-carries .ensures, c .before .mac-counts .ensures, c .key-wiped .ensures) (sym (of-session _ (sym (c .before .before .before .before .before .before .obeys .ensures) ∙ not-false _ (c .before .before .before .before .before .if1 .left)) (sym (c .before .before .before .before .byte-at .ensures) ∙ c .before .before .before .if2 .taken)))
+returns-2 c = rw (c .before .before .wiped-while .ensures, c .before .session-carries .ensures, c .mac-counts .ensures) (sym (of-session _ (sym (c .before .before .before .before .before .before .obeys .ensures) ∙ not-false _ (c .before .before .before .before .before .if1 .left)) (sym (c .before .before .before .before .byte-at .ensures) ∙ c .before .before .before .if2 .taken)))
 
 returns-3 : tie.Need-returns-3
 returns-3 c = sym (carried-wrong _ (sym (c .before .before .before .before .before .obeys .ensures) ∙ not-false _ (c .before .before .before .before .if1 .left)) (λ e. c .before .before .if2 .left (c .before .before .before .byte-at .ensures ∙ e)) (sym (c .before .object-carries .ensures) ∙ not-true _ (c .if3 .taken)))
@@ -22,7 +22,7 @@ returns-5 : tie.Need-returns-5
 returns-5 c = c .lengths-rise .ensures ∙ sym (of-policy _ (sym (c .before .before .before .before .before .before .before .before .obeys .ensures) ∙ not-false _ (c .before .before .before .before .before .before .before .if1 .left)) (sym (c .before .before .before .before .object-carries .ensures) ∙ not-false _ (c .before .before .before .if3 .left)) (sym (c .before .before .before .before .before .before .byte-at .ensures) ∙ c .before .if5 .taken))
 
 returns-6 : tie.Need-returns-6
-returns-6 c = rw (c .before .before .bare-key .ensures, c .before .pinned-key .ensures, c .no-digest .ensures) (sym (of-key _ (sym (c .before .before .before .before .before .before .before .before .before .before .before .obeys .ensures) ∙ not-false _ (c .before .before .before .before .before .before .before .before .before .before .if1 .left)) (sym (c .before .before .before .before .before .before .before .object-carries .ensures) ∙ not-false _ (c .before .before .before .before .before .before .if3 .left)) (sym (c .before .before .before .before .before .before .before .before .before .byte-at .ensures) ∙ c .before .before .before .if6 .taken)))
+returns-6 c = rw (c .before .before .bare-key .ensures, c .before .pinned-key .ensures, c .wiped-while2 .ensures) (sym (of-key _ (sym (c .before .before .before .before .before .before .before .before .before .before .before .obeys .ensures) ∙ not-false _ (c .before .before .before .before .before .before .before .before .before .before .if1 .left)) (sym (c .before .before .before .before .before .before .before .object-carries .ensures) ∙ not-false _ (c .before .before .before .before .before .before .if3 .left)) (sym (c .before .before .before .before .before .before .before .before .before .byte-at .ensures) ∙ c .before .before .before .if6 .taken)))
 
 returns-7 : tie.Need-returns-7
 returns-7 c = c .target-unless-stale .ensures ∙ sym (of-pending _ (sym (c .before .before .before .before .before .before .before .before .before .before .obeys .ensures) ∙ not-false _ (c .before .before .before .before .before .before .before .before .before .if1 .left)) (sym (c .before .before .before .before .before .before .object-carries .ensures) ∙ not-false _ (c .before .before .before .before .before .if3 .left)) (sym (c .before .before .before .before .before .before .before .before .byte-at .ensures) ∙ c .before .if7 .taken))

@@ -12,7 +12,7 @@ returns-2 : tie.Need-returns-2
 returns-2 c = rw (← c .before .before .before .byte-at .ensures, eq-eqb _ _ (c .before .before .if1 .left), sym (c .before .four-at .ensures) ∙ c .if2 .taken)
 
 returns-3 : tie.Need-returns-3
-returns-3 c = rw (← c .before .before .before .before .before .byte-at .ensures, eq-eqb _ _ (c .before .before .before .before .if1 .left), ← c .before .before .before .four-at .ensures, ne-eqb _ _ (c .before .before .if2 .left), ← c .before .four-at2 .ensures) (c .is-there .ensures)
+returns-3 c = rw (← c .before .before .before .before .before .byte-at .ensures, eq-eqb _ _ (c .before .before .before .before .if1 .left), ← c .before .before .before .four-at .ensures, ne-eqb _ _ (c .before .before .if2 .left), ← c .before .four-at2 .ensures) (c .has .ensures)
 
 pub parent-there-spec : {M : Type 1} → statement M
 parent-there-spec =

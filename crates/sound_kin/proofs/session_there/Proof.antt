@@ -9,7 +9,7 @@ returns : tie.Need-returns
 returns c = rw (sym (c .before .is-object .ensures) ∙ not-true _ (c .if1 .taken))
 
 returns-2 : tie.Need-returns-2
-returns-2 c = rw (sym (c .before .before .before .is-object .ensures) ∙ not-false _ (c .before .before .if1 .left), ← c .before .four-at .ensures) (c .is-there .ensures)
+returns-2 c = rw (sym (c .before .before .before .is-object .ensures) ∙ not-false _ (c .before .before .if1 .left), ← c .before .four-at .ensures) (c .has .ensures)
 
 pub session-there-spec : {M : Type 1} → statement M
 session-there-spec = tie.close (tie.spec (λ c κs. search needs) returns (λ c κs. search needs) (λ c κs. search needs) returns-2)

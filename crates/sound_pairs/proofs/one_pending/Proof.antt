@@ -8,7 +8,7 @@ returns : tie.Need-returns
 returns c = rw (← c .before .byte-at .ensures, ne-eqb _ _ (c .if1 .taken))
 
 returns-2 : tie.Need-returns-2
-returns-2 c = rw (← c .before .before .before .before .before .before .byte-at .ensures, eq-eqb _ _ (c .before .before .before .before .before .if1 .left), c .before .before .before .byte-at2 .ensures, c .before .before .before .before .four-at .ensures, c .before .before .four-at2 .ensures, c .before .four-at3 .ensures, c .four-at4 .ensures)
+returns-2 c = rw (← c .before .before .before .before .before .before .byte-at .ensures, eq-eqb _ _ (c .before .before .before .before .before .if1 .left), c .byte-at2 .ensures, c .before .before .before .before .four-at .ensures, c .before .before .before .four-at2 .ensures, c .before .before .four-at3 .ensures, c .before .four-at4 .ensures)
 
 pub one-pending-spec : {M : Type 1} → statement M
 one-pending-spec =

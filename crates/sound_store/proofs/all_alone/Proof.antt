@@ -1,31 +1,29 @@
--- Invariant: the answer for all records is the answer for those from i on.
+-- Asked of each record (sound_kin's Each.antt).
 use Prim.Native.Nat.{_-_, _/_}
-use Rattle.paper.specs.Form.{each, every, test}
+use Rattle.paper.specs.Form.{each, test}
 use Rattle.paper.specs.Records.{records}
-use Rattle.store_records.proofs.Every.{every-end, every-next, every-stop}
-use Rattle.store_records.proofs.Places.{told}
+use Rattle.paper.specs.Sound.{alone}
+use Rattle.sound_kin.proofs.Each.{from, each-end, each-next, each-stop}
 use borrow.Author.Needs.{needs}
-use borrow.Author.Tests.{not-false, not-true}
-use lib.ListN.{drop, length}
-use mathlib.Core.Path.{_∙_, _≡_, refl, sym}
-use Rattle.paper.specs.Sound.{alone as aloneForm}
+use lib.ListN.{length}
+use mathlib.Core.Path.{_≡_, refl}
 use Rattle.sound_store.proofs.all_alone.Statement.{statement}
 use Rattle.sound_store.proofs.all_alone.Tie as tie
 
 abbrev Inv-loop : tie.InvT-loop
-Inv-loop s n i₀ i = test (each (records s) aloneForm) ≡ every (λ y. test (aloneForm y)) (drop i (records s))
+Inv-loop s n i₀ i = test (each (records s) alone) ≡ from alone s i
 
 abbrev μ-loop : tie.MeasureT-loop
 μ-loop s n i₀ i = length s / 256 - i
 
 returns : tie.Need-returns Inv-loop μ-loop
-returns c = let φ = aloneForm in sym (c .before .before .before .before .loop .inv ∙ every-stop (λ y. test (φ y)) _ _ (c .before .before .before .loop-test .taken) (told φ (c .before .before .record-at .ensures) (c .before .is-alone .ensures) (not-true _ (c .if1 .taken))))
+returns c = each-stop alone _ _ (c .before .before .before .before .loop .inv) (c .before .before .before .loop-test .taken) (c .before .before .record-at .ensures) (c .before .is-alone .ensures) (c .if1 .taken)
 
 loop-again : tie.Need-loop-again Inv-loop μ-loop
-loop-again c = let φ = aloneForm in c .before .before .before .before .loop .inv ∙ every-next (λ y. test (φ y)) _ _ (c .before .before .before .loop-test .taken) (told φ (c .before .before .record-at .ensures) (c .before .is-alone .ensures) (not-false _ (c .if1 .left)))
+loop-again c = each-next alone _ _ (c .before .before .before .before .loop .inv) (c .before .before .before .loop-test .taken) (c .before .before .record-at .ensures) (c .before .is-alone .ensures) (c .if1 .left)
 
 returns-2 : tie.Need-returns-2 Inv-loop μ-loop
-returns-2 c = let φ = aloneForm in sym (c .before .loop .inv ∙ every-end (λ y. test (φ y)) (c .before .before .before .args .s .now) _ (c .loop-test .left))
+returns-2 c = each-end alone (c .before .before .before .args .s .now) _ (c .before .loop .inv) (c .loop-test .left)
 
 pub all-alone-spec : {M : Type 1} → statement M
 all-alone-spec =

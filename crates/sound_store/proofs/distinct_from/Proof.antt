@@ -1,31 +1,27 @@
--- Invariant: the answer for all records from the start on is the answer for those from i on.
+-- Asked of each record from a place on (sound_kin's Each.antt).
 use Prim.Native.Nat.{_-_, _/_}
-use Rattle.paper.specs.Form.{every, test}
-use Rattle.paper.specs.Records.{records}
 use Rattle.paper.specs.Sound.{distinct}
-use Rattle.store_records.proofs.Every.{every-end, every-next, every-stop}
-use Rattle.store_records.proofs.Places.{told}
+use Rattle.sound_kin.proofs.Each.{from, each-end, each-next, each-stop}
 use borrow.Author.Needs.{needs}
-use borrow.Author.Tests.{not-false, not-true}
-use lib.ListN.{drop, length}
-use mathlib.Core.Path.{_∙_, _≡_, refl, sym}
+use lib.ListN.{length}
+use mathlib.Core.Path.{_≡_, refl}
 use Rattle.sound_store.proofs.distinct_from.Statement.{statement}
 use Rattle.sound_store.proofs.distinct_from.Tie as tie
 
 abbrev Inv-loop : tie.InvT-loop
-Inv-loop s from x n i₀ i = every (λ y. test (distinct x y)) (drop from (records s)) ≡ every (λ y. test (distinct x y)) (drop i (records s))
+Inv-loop s k x n i₀ i = from (distinct x) s k ≡ from (distinct x) s i
 
 abbrev μ-loop : tie.MeasureT-loop
-μ-loop s from x n i₀ i = length s / 256 - i
+μ-loop s k x n i₀ i = length s / 256 - i
 
 returns : tie.Need-returns Inv-loop μ-loop
-returns c = let φ = distinct (c .before .before .before .before .before .before .before .args .x .now) in sym (c .before .before .before .before .loop .inv ∙ every-stop (λ y. test (φ y)) _ _ (c .before .before .before .loop-test .taken) (told φ (c .before .before .record-at .ensures) (c .before .are-distinct .ensures) (not-true _ (c .if1 .taken))))
+returns c = let a = c .before .before .before .before .before .before .before .args in each-stop (distinct (a .x .now)) _ _ (c .before .before .before .before .loop .inv) (c .before .before .before .loop-test .taken) (c .before .before .record-at .ensures) (c .before .are-distinct .ensures) (c .if1 .taken)
 
 loop-again : tie.Need-loop-again Inv-loop μ-loop
-loop-again c = let φ = distinct (c .before .before .before .before .before .before .before .args .x .now) in c .before .before .before .before .loop .inv ∙ every-next (λ y. test (φ y)) _ _ (c .before .before .before .loop-test .taken) (told φ (c .before .before .record-at .ensures) (c .before .are-distinct .ensures) (not-false _ (c .if1 .left)))
+loop-again c = let a = c .before .before .before .before .before .before .before .args in each-next (distinct (a .x .now)) _ _ (c .before .before .before .before .loop .inv) (c .before .before .before .loop-test .taken) (c .before .before .record-at .ensures) (c .before .are-distinct .ensures) (c .if1 .left)
 
 returns-2 : tie.Need-returns-2 Inv-loop μ-loop
-returns-2 c = let φ = distinct (c .before .before .before .before .args .x .now) in sym (c .before .loop .inv ∙ every-end (λ y. test (φ y)) (c .before .before .before .before .args .s .now) _ (c .loop-test .left))
+returns-2 c = let a = c .before .before .before .before .args in each-end (distinct (a .x .now)) (a .s .now) _ (c .before .loop .inv) (c .loop-test .left)
 
 pub distinct-from-spec : {M : Type 1} → statement M
 distinct-from-spec =

@@ -25,15 +25,12 @@ returns-7 : tie.Need-returns-7
 returns-7 c = rw (c .before .before .c7 .given .1) (c .is-held .ensures)
 
 returns-8 : tie.Need-returns-8
-returns-8 c = rw (c .before .before .c8 .given .1) (c .is-aimed .ensures)
-
-returns-9 : tie.Need-returns-9
-returns-9 c = rw (c .before .enum-told .given .1) (c .is-free .ensures)
+returns-8 c = rw (c .before .enum-told .given .1) (c .is-free .ensures)
 
 pub is-chosen-spec : {M : Type 1} → statement M
 is-chosen-spec =
     tie.close
-    (tie.spec (λ c. search needs) (λ c κs. search needs) (λ c. search needs) (λ c κs. search needs) (λ c. search needs) (λ c κs. search needs)
+    (tie.spec (λ c. search needs) (λ c κs. search needs) (λ c. search needs) (λ c κs. search needs)
     (λ c. search needs) (λ c κs. search needs) (λ c. search needs) (λ c κs. search needs) (λ c. search needs) (λ c κs. search needs)
     (λ c. search needs) (λ c κs. search needs) (λ c. search needs) (λ c κs. search needs) (λ c. search needs) (λ c κs. search needs) returns returns-2
-    returns-3 returns-4 returns-5 returns-6 returns-7 returns-8 returns-9)
+    returns-3 returns-4 returns-5 returns-6 returns-7 returns-8)

@@ -26,5 +26,5 @@ returns c = refl
 pub write-head-spec : {M : Type 1} → statement M
 write-head-spec =
     tie.close
-    (tie.spec (λ c. search needs) (λ c. search needs) slice-write-b-2 (λ c. search needs) slice-write-b-3 (λ c. search needs) slice-write-b-4
-    (λ c. search needs) slice-write-b-5 (λ c. search needs) returns)
+    (tie.spec (λ c. search needs) (λ c. search needs) slice-write-b-2 (λ c. search needs) (λ c. search needs) slice-write-b-3 (λ c. search needs)
+    (λ c. search needs) slice-write-b-4 (λ c. search needs) (λ c. search needs) slice-write-b-5 (λ c. search needs) returns)
