@@ -54,10 +54,12 @@ fn begun(key: &[u8; 32], name: &[u8], counter: usize) -> Mac
     ensures { λ r. ⌜ Keyed r (now (key .entry) ++ now (name .entry) ++ enc2 counter) [] ⌝ }
 {
     let named = SESSION_KEY_BYTES + name.len();
-    let a = joined([0u8; 64], 0, key);
-    let b = joined(a, SESSION_KEY_BYTES, name);
     let counted = two_bytes(counter);
-    let k = joined(b, named, &counted);
+    let k = joined(
+        joined(joined([0u8; 64], 0, key), SESSION_KEY_BYTES, name),
+        named,
+        &counted,
+    );
     hmac::start(part_of(&k, 0, named + 2))
 }
 

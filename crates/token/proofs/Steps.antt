@@ -21,7 +21,7 @@ use Rattle.paper.specs.Posting.{look, postBy}
 use Rattle.paper.specs.Sessions.{createSession, closeBy, abortSession}
 use Rattle.paper.specs.Users.{deleteKey, unlockKey, changePin, useKey}
 use Rattle.paper.specs.Answer.{sessionAct, sessionStep, userStep, step, earlyFaults, judged, told, written, answer, freshCounter, formatted}
-use Rattle.paper.proofs.Forms.{both}
+use Rattle.paper.proofs.Forms.{both, contrary}
 use Rattle.laws.proofs.Bytes.{split}
 use Rattle.store_records.specs.View.{Becomes}
 use Rattle.store_records.proofs.Views.{length-records, whole, after}
@@ -30,6 +30,7 @@ use Rattle.method_acts.specs.declared.Reply.{Reply}
 use Rattle.method_acts.specs.Answers.{Answers, bareReply}
 use Rattle.method_acts.proofs.Climbs.{settle-done, settle-not}
 use Rattle.method_acts.specs.Range.{inRange}
+use Rattle.token.specs.Early.{making}
 use Rattle.token.specs.Said.{known, made}
 use Rattle.token.specs.Said.{told as said-so}
 
@@ -67,6 +68,13 @@ unfolding inRange
 ranged f {s} h a = rw (length-records s, le-leb (length s / 256) 256 (not-many s (fitting s h))) at a
 
 -- ---- the method of a step
+
+module _ (m : ℕ) where
+  pub makes-12 : making m ≡ true → (m ≡ 8 → ⊥) → (m ≡ 9 → ⊥) → (m ≡ 10 → ⊥) → m ≡ 12
+  makes-12 e h8 h9 h10 = eqb-true m 12 (rw (ne-eqb m 8 h8, ne-eqb m 9 h9, ne-eqb m 10 h10) at e)
+
+  pub makes-not : making m ≡ false → (n : ℕ) → making n ≡ true → m ≡ n → ⊥
+  makes-not e n f z = contrary (sym f ∙ ap making (sym z) ∙ e)
 
 module _ (c chip : List ℕ) (rs : List Rec) {x : SessionValue} (e : x ≡ itself c (block (subject c) rs)) where
   -- the session's value is the paper's

@@ -1,9 +1,10 @@
 -- What is known of store and call once none of the early refusals holds, step by step: for a session call its session is open, and the
 -- session's value is read off its record.
 use mathlib.Core.Path.{_≡_}
-use mathlib.Core.Bool.{true}
+use mathlib.Core.Bool.{Bool, true, _||_}
 use mathlib.Core.List.{List}
 use Prim.Native.Nat.{ℕ}
+use lib.Dec.{eqb}
 use Rattle.paper.specs.Form.{Fact}
 use Rattle.paper.specs.Records.{SESSION, SessionValue, records, is, block}
 use Rattle.paper.specs.Sound.{sound}
@@ -27,3 +28,7 @@ pub record Open (s c : List ℕ) : Type 0 where
 pub record Found (s c : List ℕ) (x : SessionValue) : Type 0 where
   pub whole : sound s ≡ true
   pub value : x ≡ itself c (block (subject c) (records s))
+
+-- The methods that make a PUK, a PIN policy or a key, or give a key its path.
+abbrev pub making : ℕ → Bool
+making m = eqb m 8 || (eqb m 9 || (eqb m 10 || eqb m 12))

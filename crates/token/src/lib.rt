@@ -35,7 +35,7 @@ ghost use Rattle.store_session.specs.Decoded.{valueOf};
 ghost use Rattle.method_acts.specs.Rungs.{status};
 ghost use Rattle.method_acts.specs.Answers.{Answers, bareReply};
 ghost use Rattle.token.specs.Said.{known, told, made};
-ghost use Rattle.token.specs.Early.{placeOf, Passed, Open, Found};
+ghost use Rattle.token.specs.Early.{placeOf, Passed, Open, Found, making};
 
 // The last byte of the counter's number.
 const LAST_OF_NUMBER: usize = paper::COUNTER_END - 1;
@@ -94,9 +94,15 @@ fn early(s: &[u8], i: usize, c: &[u8]) -> u8
     fault(n2, call_form::is_session_call(c) & closed, NOT_OPEN)
 }
 
-// The calls that make something in a session, by their method.
+// Whether a method makes something in a session and has large drafts: 8, 9, 10 and 12.
+fn is_making(m: u8) -> bool
+    ensures { λ b. ⌜ b ≡ making m ⌝ }
+{
+    (m == 8) | ((m == 9) | ((m == 10) | (m == 12)))
+}
+
 fn make_step<'a>(s: &mut [u8], x: Session, c: &'a [u8], chip: &'a [u8]) -> Reply
-    requires { ⌜ Found (now s) (now c) (valueOf x) × (method (now c) ≡ 3 → ⊥) × (method (now c) ≡ 5 → ⊥) ⌝ }
+    requires { ⌜ Found (now s) (now c) (valueOf x) × (making (method (now c)) ≡ true) ⌝ }
     ensures { λ r. ⌜ Answers (sessionStep (now (c .entry)) (now (chip .entry)) (records (now (s .entry)))) r (now (s .entry)) (now (s .exit)) ⌝ }
 {
     let m = byte_at(c, METHOD);
@@ -109,30 +115,30 @@ fn make_step<'a>(s: &mut [u8], x: Session, c: &'a [u8], chip: &'a [u8]) -> Reply
     if m == 10 {
         return method_keys::make_key(s, x, c, chip);
     }
-    if m == 12 {
-        return method_keys::set_path(s, x, c, chip);
-    }
-    if m == 50 {
-        return method_posts::post_delete(s, x, c, chip);
-    }
-    method_posts::post_unlock(s, x, c, chip)
+    method_keys::set_path(s, x, c, chip)
 }
 
-// The calls of a session, which is decoded once: it is ended, or something is made in it. The two stand apart so that a close, which
-// calls deepest, does not have the others' drafts below it on the stack.
+// The calls of a session, which is decoded once: something is made in it, it is ended, or it asks for a removal or an unlocking. They stand
+// apart so that none has the drafts of another below it on the stack.
 fn session_step<'a>(s: &mut [u8], i: usize, c: &'a [u8], chip: &'a [u8]) -> Reply
     requires { ⌜ Open (now s) (now c) × (i ≡ placeOf (now s) (now c)) ⌝ }
     ensures { λ r. ⌜ Answers (sessionStep (now (c .entry)) (now (chip .entry)) (records (now (s .entry)))) r (now (s .entry)) (now (s .exit)) ⌝ }
 {
     let x = store_session::decode(record_at(s, i));
     let m = byte_at(c, METHOD);
+    if is_making(m) {
+        return make_step(s, x, c, chip);
+    }
     if m == 3 {
         return method_session::close(s, x, c, chip);
     }
     if m == 5 {
         return method_session::abort(s, c, chip);
     }
-    make_step(s, x, c, chip)
+    if m == 50 {
+        return method_posts::post_delete(s, x, c, chip);
+    }
+    method_posts::post_unlock(s, x, c, chip)
 }
 
 // The user's calls.
