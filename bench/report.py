@@ -75,7 +75,8 @@ def hashes():
 
 
 def deepest_path():
-    """The most stack that a path of calls from sks_call takes, by the machine code: each function's return address, pushes and frame."""
+    """The most stack that a path of calls from sks_call takes, by the machine code: each function's return address, pushes and frame. One
+    that calls nothing may use 128 bytes more below its stack pointer without moving it."""
     frames, calls, function = {}, {}, None
     code = measured("code").splitlines()
     for line, following in zip(code, code[1:]):
@@ -96,7 +97,7 @@ def deepest_path():
     def depth(name, above=()):
         assert name not in above, f"{name} calls itself"
         # memcpy and memset are not in the archive: a return address for them.
-        return frames.get(name, 8) + max((depth(callee, above + (name,)) for callee in calls.get(name, ())), default=0)
+        return frames.get(name, 8) + max((depth(callee, above + (name,)) for callee in calls.get(name, ())), default=128)
 
     return depth("sks_call")
 
