@@ -164,21 +164,22 @@ pub fn of_policy(key: &[u8; 32], counter: u16, q: PolicyFields, puk: &[u8], c: &
     hmac::finish(hmac::update(t, &rules))
 }
 
-// 10 createKeyEntry: its MAC, likewise, with the record of the policy that it names, and the attestation that it answers with
+// 10 createKeyEntry: its MAC, likewise, with the record of the policy that it names, and the attestation that it answers with. The MAC
+// under way is kept in one place: a name for each would take that much of the stack for each
 pub fn of_key(key: &[u8; 32], counter: u16, q: KeyFields, policy: &[u8], c: &[u8]) -> [u8; 32]
     ensures { λ r. ⌜ r ≡ macUnder (now (key .entry)) (ascii "createKeyEntry") counter (keyData (keyOf q (now (c .entry)) []) (now (policy .entry))) ⌝ }
 {
     let flags = [q.caching, q.biometric, q.export, q.deletion, q.usage];
-    let m = begun(key, b"createKeyEntry", counter as usize);
-    let id = with_string(m, string_at(c, BEHIND_SUBJECT));
-    let entry = with_string(id, string_at(c, q.entry));
-    let seed = with_string(entry, string_at(c, q.seed));
-    let named = with_id_or(seed, q.policy, policy);
-    let pin = with_pin_value(named, q, c, policy);
-    let flagged = hmac::update(pin, &flags);
-    let friendly = with_string(flagged, string_at(c, q.friendly));
-    let algorithm = with_string(friendly, string_at(c, q.algorithm));
-    hmac::finish(with_string(algorithm, string_at(c, q.parameters)))
+    let mut m = begun(key, b"createKeyEntry", counter as usize);
+    m = with_string(m, string_at(c, BEHIND_SUBJECT));
+    m = with_string(m, string_at(c, q.entry));
+    m = with_string(m, string_at(c, q.seed));
+    m = with_id_or(m, q.policy, policy);
+    m = with_pin_value(m, q, c, policy);
+    m = hmac::update(m, &flags);
+    m = with_string(m, string_at(c, q.friendly));
+    m = with_string(m, string_at(c, q.algorithm));
+    hmac::finish(with_string(m, string_at(c, q.parameters)))
 }
 
 pub fn attested_key(key: &[u8; 32], counter: u16, c: &[u8], chip: &[u8]) -> [u8; 32]

@@ -16,3 +16,4 @@ pub mod Sessions
 pub mod Numbers
 pub mod Users
 pub mod Answer
+pub mod Issuing

@@ -53,6 +53,10 @@ keyBytes = 32
 abbrev pub macBytes : ℕ
 macBytes = 32
 
+-- the MAC counter's last number
+abbrev pub lastCount : ℕ
+lastCount = 65535
+
 -- calls, and the strings in them that no record keeps
 abbrev pub shortestCall : ℕ
 shortestCall = 5

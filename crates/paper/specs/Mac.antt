@@ -1,4 +1,5 @@
--- MACs and attestations: key, name, counter and data. Data speaks of the call's fields by name, never of places.
+-- MACs and attestations: key, name, counter and data. Data speaks of the call's fields by name, never of places. What a handle stands for
+-- is an argument: the store takes it from its records, the issuer from its order (Issuing).
 use mathlib.Core.Bool.{Bool, false, cond, _||_}
 use mathlib.Core.List.{List, [], _∷_, _++_}
 use Prim.Native.Nat.{ℕ, _+_}
@@ -31,51 +32,75 @@ uses m =
 abbrev pub notApplicable : List ℕ
 notApplicable = ascii "#N/A"
 
+abbrev pub nameOr : ℕ → List ℕ → List ℕ
+nameOr handle name = cond (eqb handle 0) notApplicable name
+
 abbrev pub idOr : ℕ → Rec → List ℕ
-idOr handle policy = cond (eqb handle 0) notApplicable (id policy)
+idOr handle policy = nameOr handle (id policy)
 
 -- 3: ClientSessionID and Nonce
+abbrev pub closeDataOf : List ℕ → Close → List ℕ
+closeDataOf client q = string client ++ string (q .nonce)
+
 abbrev pub closeData : SessionValue → Close → List ℕ
-closeData x q = string (x .client) ++ string (q .nonce)
+closeData x q = closeDataOf (x .client) q
 
 -- 8: the fields from ID up to the MAC
 abbrev pub pukData : Puk → List ℕ
 pukData q = string (q .id) ++ string (q .encrypted) ++ (q .format ∷ q .retry ∷ [])
 
 -- 9: the same, with the PUK's ID
-abbrev pub policyData : Policy → Rec → List ℕ
-policyData q puk =
-    string (q .id) ++ string (idOr (q .puk) puk)
+abbrev pub policyDataOf : Policy → List ℕ → List ℕ
+policyDataOf q puk =
+    string (q .id) ++ string puk
     ++ (q .defined ∷ q .modifiable ∷ q .format ∷ q .retry ∷ q .grouping ∷ q .patterns ∷ q .minLength ∷ q .maxLength ∷ q .input ∷ [])
+
+abbrev pub policyData : Policy → Rec → List ℕ
+policyData q puk = policyDataOf q (idOr (q .puk) puk)
 
 -- 10: with the policy's ID; PINValue becomes `#N/A` if UserDefined or without policy; EndorsedAlgorithms is left out
 abbrev pub issuerSets : Key → Rec → Bool
 issuerSets q policy = cond (eqb (q .policy) 0) false (eqb (userDefined policy) 0)
 
+abbrev pub pinValueIf : Bool → Key → List ℕ
+pinValueIf sets q = cond sets (q .pinValue) notApplicable
+
 abbrev pub pinValueOr : Key → Rec → List ℕ
-pinValueOr q policy = cond (issuerSets q policy) (q .pinValue) notApplicable
+pinValueOr q policy = pinValueIf (issuerSets q policy) q
+
+abbrev pub keyDataOf : Key → List ℕ → Bool → List ℕ
+keyDataOf q policy sets =
+    string (q .id) ++ string (q .entryAlgorithm) ++ string (q .seed) ++ string policy
+    ++ string (pinValueIf sets q) ++ (q .caching ∷ q .biometric ∷ q .export ∷ q .deletion ∷ q .usage ∷ [])
+    ++ string (q .friendly) ++ string (q .keyAlgorithm) ++ string (q .parameters)
 
 abbrev pub keyData : Key → Rec → List ℕ
-keyData q policy =
-    string (q .id) ++ string (q .entryAlgorithm) ++ string (q .seed) ++ string (idOr (q .policy) policy)
-    ++ string (pinValueOr q policy) ++ (q .caching ∷ q .biometric ∷ q .export ∷ q .deletion ∷ q .usage ∷ [])
-    ++ string (q .friendly) ++ string (q .keyAlgorithm) ++ string (q .parameters)
+keyData q policy = keyDataOf q (idOr (q .policy) policy) (issuerSets q policy)
 
 -- 12: the key's ID, its public key and the certificates
 abbrev pub eachString : List (List ℕ) → List ℕ
 eachString [] = []
 eachString (v ∷ vs) = string v ++ eachString vs
 
-abbrev pub pathData : Rec → Path → List ℕ
-pathData k q = string (id k) ++ string (publicKey k) ++ eachString (q .certificates)
+abbrev pub pathDataOf : List ℕ → List ℕ → Path → List ℕ
+pathDataOf name public q = string name ++ string public ++ eachString (q .certificates)
 
--- 50, 51: Authorization
+abbrev pub pathData : Rec → Path → List ℕ
+pathData k q = pathDataOf (id k) (publicKey k) q
+
+-- 50, 51: Authorization, under the name that the method tells
+abbrev pub postName : ℕ → String
+postName op = cond (eqb op 51) "postUnlockKey" "postDeleteKey"
+
 abbrev pub postData : Post → List ℕ
 postData q = string (q .authorization)
 
 -- Attestations: 10 over ID and public key, close over Nonce.
+abbrev pub keyAttestedOf : List ℕ → List ℕ → List ℕ
+keyAttestedOf name public = string name ++ string public
+
 abbrev pub keyAttested : Key → List ℕ
-keyAttested q = string (q .id) ++ string (q .public)
+keyAttested q = keyAttestedOf (q .id) (q .public)
 
 abbrev pub closeAttested : Close → List ℕ
 closeAttested q = string (q .nonce)
