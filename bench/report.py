@@ -109,11 +109,21 @@ def stack():
             + f"\n\nThe most over these {calls:,} calls is {most:,} bytes, the bound by the machine code {deepest_path():,} bytes.")
 
 
-def size():
-    code, data, zeroed = map(int, measured("size").splitlines()[1].split()[:3])
-    undefined = sorted(set(re.findall(r"\bU (\S+)", measured("undefined"))))
-    return (f"libtoken.a has {code:,} bytes of code and constants, {data} of data, {zeroed} of zeroed data (`size`)."
+def size_of(name):
+    code, data, zeroed = map(int, measured(f"size-{name}").splitlines()[1].split()[:3])
+    undefined = sorted(set(re.findall(r"\bU (\S+)", measured(f"undefined-{name}"))))
+    return (f"lib{name}.a has {code:,} bytes of code and constants, {data} of data, {zeroed} of zeroed data (`size`)."
             f" Of others it needs (`nm -u`): {', '.join(undefined)}.")
+
+
+def size():
+    return size_of("token")
+
+
+def issuer():
+    lines = [[*line, f"{float(line[3]) / float(line[5]):.2f}"] for line in rows("issue")]
+    head = ["call", "bytes", "proved, least", "median", "builder, least", "median", "proved / builder, medians"]
+    return table(head, lines) + "\n\n" + size_of("issuer")
 
 
 def proofs():
@@ -185,7 +195,7 @@ def picture():
 def main():
     with open("docs/BENCH.md") as f:
         page = f.read()
-    for part in (when, methods, sound, hashes, stack, size, proofs):
+    for part in (when, methods, issuer, sound, hashes, stack, size, proofs):
         name, words = part.__name__, part()
         if words is None:
             continue

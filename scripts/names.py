@@ -14,7 +14,7 @@ import sys
 
 ROOT = pathlib.Path(__file__).resolve().parent.parent
 PAGES = [ROOT / "README.md", *sorted((ROOT / "docs").glob("*.md")), *sorted((ROOT / "host").glob("*.md"))]
-PLAIN = {"README.md", "ARCHITECTURE.md", "PAPER.md", "DECISIONS.md", "RULE.md", "TRUST.md"}
+PLAIN = {"README.md", "ARCHITECTURE.md", "PAPER.md", "DECISIONS.md", "LANDINGS.md", "RULE.md", "TRUST.md"}
 # words in backticks that name nothing of ours
 WORDS = set("rt make cc cargo python3 git requires ensures search rw cc omega refl abbrev unfoldable use match const fn λ uses gives ⊥ min max "
             "none true false a b c i k n q s t r x qs chip reply".split())

@@ -18,7 +18,8 @@ PAGE = ROOT / "docs/ARCHITECTURE.md"
 NAMED = {
     "sha256": "hash", "hmac": "hash",
     "paper": "meaning", "laws": "meaning", "rule": "meaning", "worked": "meaning", "instances": "meaning",
-    "token": "top", "story": "top", "lines": "top", "vectors": "top", "hash_c": "top",
+    "issued": "meaning",
+    "token": "top", "issuer": "top", "story": "top", "lines": "top", "vectors": "top", "hash_c": "top",
 }
 
 # room: the rooms it may stand on, besides itself
@@ -47,7 +48,7 @@ SAYS = {
     "effect": "what befalls records",
     "sound": "whether a store is sound",
     "method": "the thirteen methods",
-    "top": "the token, and programs",
+    "top": "the token, the issuer's half, programs",
 }
 
 

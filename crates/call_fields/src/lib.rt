@@ -92,6 +92,13 @@ fn skip(c: &[u8], n: u8, k: usize) -> usize
     at
 }
 
+// The same for other crates, which know nothing of such a bound.
+pub fn behind_strings(c: &[u8], k: u16, n: u8) -> usize
+    ensures { λ r. ⌜ r ≡ behindStrings n k (now (c .entry)) ⌝ }
+{
+    skip(c, n, k as usize)
+}
+
 // 2 createProvisioningSession
 pub struct CreateFields {
     pub privacy: u8,

@@ -144,11 +144,11 @@ pub fn is_key(q: KeyFields, c: &[u8], chip: &[u8]) -> bool
     has_id(c, BEHIND_SUBJECT) & values
 }
 
-// 12 setCertificatePath. Each of n strings has at least one byte.
-fn are_filled(c: &[u8], n: u8) -> bool
-    ensures { λ r. ⌜ r ≡ test (filledAt n 10 (now (c .entry))) ⌝ }
+// 12 setCertificatePath. Each of n strings from place k on has at least one byte.
+pub fn are_filled(c: &[u8], k: u16, n: u8) -> bool
+    ensures { λ r. ⌜ r ≡ test (filledAt n k (now (c .entry))) ⌝ }
 {
-    let mut at: usize = CERTIFICATES;
+    let mut at = k as usize;
     let mut left = n;
     while 0 < left {
         let size = two_at(c, at);
@@ -165,7 +165,7 @@ pub fn is_path(q: PathFields, c: &[u8], chip: &[u8]) -> bool
     ensures { λ r. ⌜ r ≡ test (pathFormOf q (now (c .entry)) (now (chip .entry))) ⌝ }
 {
     let rest = (q.end == c.len()) & (chip.len() == 0);
-    (1 <= q.count) & (are_filled(c, q.count) & rest)
+    (1 <= q.count) & (are_filled(c, CERTIFICATES as u16, q.count) & rest)
 }
 
 // 50 postDeleteKey, 51 postUnlockKey. The chip byte tells whether the signature verified.

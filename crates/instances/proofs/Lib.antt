@@ -6,3 +6,4 @@ pub mod UnnamedPostFirst
 pub mod Conflict
 pub mod Apart
 pub mod Unnamed
+pub mod Issued

@@ -35,7 +35,7 @@ ghost use Rattle.paper.specs.Posting.{look, postRules, postSeal, postFaults, pe
 ghost use Rattle.paper.specs.Act.{perform};
 ghost use Rattle.store_session.specs.Decoded.{valueOf};
 ghost use Rattle.call_fields.specs.Fields.{postFields};
-ghost use Rattle.call_mac.specs.Names.{postName};
+ghost use Rattle.paper.specs.Mac.{postName};
 ghost use Rattle.method_acts.specs.Rungs.{status};
 ghost use Rattle.method_acts.specs.Answers.{Answers};
 

@@ -2,7 +2,6 @@
 -- call without MAC and chip bytes, and what the store would find behind its handles: ClientSessionID, IDs, who sets a PIN, a public key. The MAC
 -- is over the same data as the store's (Mac). A field is out of range where the store would answer 16; what the store refuses by another
 -- number is written as ordered.
-use mathlib.Core.Bool.{Bool}
 use mathlib.Core.List.{List, [], _∷_, _++_}
 use Prim.Native.Nat.{ℕ, _+_}
 use Prim.Native.String.{String}

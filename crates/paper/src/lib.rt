@@ -214,6 +214,16 @@ pub const LONGEST_PARAMETERS: usize = 8;
 
 pub const LONGEST_AUTHORIZATION: usize = 512;
 
+// The MAC counter's last number.
+pub const LAST_COUNT: usize = 65535;
+
+// Who sets the PIN of a key, in an issuer's order.
+pub const NO_PIN: u8 = 0;
+
+pub const USER_PIN: u8 = 1;
+
+pub const ISSUER_PIN: u8 = 2;
+
 // ---- the reply
 
 pub const REPLY_BYTES: usize = 37;

@@ -94,7 +94,7 @@ fn same_answer(step: &Step) -> Result<(), String> {
 /// Changes one byte of the sample store, at every place and to several values. The call is the use of a key.
 fn one_byte_changed() -> Result<String, String> {
     let built = builder::user(100, 65_541, &[b""]);
-    let order = Order { intent: "one byte changed", built, fault: None };
+    let order = Order { intent: "one byte changed", built, ordered: None, fault: None };
     let sound = sample().concat();
     let (mut unsound, mut all) = (0, 0);
     for place in 0..sound.len() {

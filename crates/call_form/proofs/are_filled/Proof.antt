@@ -12,10 +12,10 @@ use Rattle.call_form.proofs.are_filled.Statement.{statement}
 use Rattle.call_form.proofs.are_filled.Tie as tie
 
 abbrev Inv-loop : tie.InvT-loop
-Inv-loop c n at₀ left₀ at left = (test (filledAt n 10 c) ≡ test (filledAt left at c)) × (at + left * 65537 ≤ 10 + n * 65537)
+Inv-loop c k n at₀ left₀ at left = (test (filledAt n k c) ≡ test (filledAt left at c)) × (at + left * 65537 ≤ k + n * 65537)
 
 abbrev μ-loop : tie.MeasureT-loop
-μ-loop c n at₀ left₀ at left = left
+μ-loop c k n at₀ left₀ at left = left
 
 loop-holds : tie.Need-loop-holds Inv-loop μ-loop
 loop-holds c = (refl, omega arith)

@@ -7,4 +7,4 @@ returns : tie.Need-returns
 returns c = rw (c .are-filled .ensures)
 
 pub is-path-spec : {M : Type 1} → statement M
-is-path-spec = tie.close (tie.spec (λ c κs. search needs) returns)
+is-path-spec = tie.close (tie.spec (λ c. search needs) (λ c κs. search needs) returns)

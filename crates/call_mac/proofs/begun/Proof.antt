@@ -1,6 +1,5 @@
 -- Secret, name and counter are written one behind the other, and the MAC starts with what they fill.
 use mathlib.Core.Path.{_≡_, ap, _∙_}
-use Prim.Native.Nat.{ℕ}
 use native.Mathlib.Omega.{arith}
 use lib.ListN.{length}
 use Rattle.call_mac.proofs.Pieces.{key-joined}

@@ -1,13 +1,10 @@
--- The one string is taken, and it is the call's field.
-use mathlib.Core.Path.{_∙_}
-use Rattle.paper.specs.Mac.{macUnder}
+-- The authorization is the call's field.
 use borrow.Author.Needs.{needs}
 use Rattle.call_mac.proofs.of_post.Statement.{statement}
 use Rattle.call_mac.proofs.of_post.Tie as tie
 
 returns : tie.Need-returns
-unfolding macUnder
-returns c = c .finish .ensures _ _ (c .before .with-string .ensures _ _ (c .before .before .before .begun-post .ensures)) ∙ rw (c .before .before .string-at .ensures)
+returns c = rw (← c .before .string-at .ensures) (c .post-under .ensures)
 
 pub of-post-spec : {M : Type 1} → statement M
-of-post-spec = tie.close (tie.spec (λ c κs. search needs) (λ c κs. search needs) (λ c κs. search needs) (λ c κs. search needs) returns)
+of-post-spec = tie.close (tie.spec (λ c κs. search needs) (λ c κs. search needs) returns)

@@ -13,13 +13,16 @@ use Rattle.call_mac.proofs.with_certificates.Statement.{statement}
 use Rattle.call_mac.proofs.with_certificates.Tie as tie
 
 abbrev Inv-loop : tie.InvT-loop
-Inv-loop c n r₀ at₀ left₀ r at left = ((k text : List ℕ) → Keyed r₀ k text → (t : List ℕ) × Keyed r k t × (t ++ eachString (strings left at c) ≡ text ++ eachString (strings n 10 c))) × (at + left * 65537 ≤ 10 + n * 65537)
+Inv-loop c k n r₀ at₀ left₀ r at left =
+    ((key text : List ℕ) → Keyed r₀ key text
+    → (t : List ℕ) × Keyed r key t × (t ++ eachString (strings left at c) ≡ text ++ eachString (strings n k c)))
+    × (at + left * 65537 ≤ k + n * 65537)
 
 abbrev μ-loop : tie.MeasureT-loop
-μ-loop c n r₀ at₀ left₀ r at left = left
+μ-loop c k n r₀ at₀ left₀ r at left = left
 
 loop-holds : tie.Need-loop-holds Inv-loop μ-loop
-loop-holds c = ((λ k text h. (text, h, refl)), omega arith)
+loop-holds c = ((λ key text h. (text, h, refl)), omega arith)
 
 loop-again : tie.Need-loop-again Inv-loop μ-loop
 unfolding behind
@@ -28,14 +31,22 @@ loop-again c =
     let loop = c .before .before .before .before .loop in
     let loop-test = c .before .before .before .loop-test in
     let string-in = c .before .before .string-in in
-    let with-string = c .before .with-string in
-    ((λ k text h. let w = loop .inv .0 k text h in (w .0 ++ string (string-in .result .now), with-string .ensures k (w .0) (w .1), rw (string-in .ensures, c .two-at .ensures .0) (sym (certificates-more (w .0) (args .c .now) (loop .left) (loop .at) (loop-test .taken)) ∙ w .2))), omega arith)
+    let with-string = c .before .with-string in (
+      (λ key text h.
+          let w = loop .inv .0 key text h in (
+            w .0 ++ string (string-in .result .now),
+            with-string .ensures key (w .0) (w .1),
+            rw (string-in .ensures, c .two-at .ensures .0)
+                (sym (certificates-more (w .0) (args .c .now) (loop .left) (loop .at) (loop-test .taken)) ∙ w .2),
+          )),
+      omega arith,
+    )
 
 returns : tie.Need-returns Inv-loop μ-loop
 returns c =
     let args = c .before .before .before .args in
     let loop = c .before .loop in
-    λ k text h. let w = loop .inv .0 k text h in rw (← w .2, certificates-end (w .0) (args .c .now) (loop .left) (loop .at) (c .loop-test .left)) (w .1)
+    λ key text h. let w = loop .inv .0 key text h in rw (← w .2, certificates-end (w .0) (args .c .now) (loop .left) (loop .at) (c .loop-test .left)) (w .1)
 
 pub with-certificates-spec : {M : Type 1} → statement M
 with-certificates-spec =

@@ -1,20 +1,13 @@
--- What `issuer_sets` tells decides which string is taken.
-use mathlib.Core.List.{[]}
-use mathlib.Core.Path.{_∙_, refl, sym}
-use Rattle.call_fields.specs.Fields.{keyOf}
+-- Who sets the PIN decides which string is taken.
 use borrow.Author.Needs.{needs}
 use Rattle.call_mac.proofs.with_pin_value.Statement.{statement}
 use Rattle.call_mac.proofs.with_pin_value.Tie as tie
 
 returns : tie.Need-returns
-returns c = let a = c .before .before .before .before .before .before .args in
-    λ k text h. rw (sym (c .before .before .before .issuer-sets .ensures (keyOf (a .q) (a .c .now) []) refl) ∙ c .before .before .if1 .taken, ← c .before .string-at .ensures) (c .with-string .ensures k text h)
+returns c = λ k text h. rw (c .before .if1 .taken) (c .with-string .ensures k text h)
 
 returns-2 : tie.Need-returns-2
-returns-2 c = let a = c .before .before .before .before .before .before .args in
-    λ k text h. rw (sym (c .before .before .before .issuer-sets .ensures (keyOf (a .q) (a .c .now) []) refl) ∙ c .before .before .if1 .left) (c .with-string2 .ensures k text h)
+returns-2 c = λ k text h. rw (c .before .before .if1 .left) (c .with-string2 .ensures k text h)
 
 pub with-pin-value-spec : {M : Type 1} → statement M
-with-pin-value-spec =
-    tie.close
-    (tie.spec (λ c κs. search needs) (λ c κs. search needs) (λ c κs. search needs) returns (λ c. search needs) (λ c κs. search needs) returns-2)
+with-pin-value-spec = tie.close (tie.spec (λ c κs. search needs) returns (λ c. search needs) (λ c κs. search needs) returns-2)

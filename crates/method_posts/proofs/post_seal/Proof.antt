@@ -3,7 +3,7 @@ use mathlib.Core.Path.{refl}
 use Rattle.paper.specs.Calls.{postIn}
 use Rattle.paper.specs.Posting.{postSeal}
 use Rattle.store_session.specs.Decoded.{valueOf}
-use Rattle.call_mac.specs.Names.{postName}
+use Rattle.paper.specs.Mac.{postName}
 use Rattle.method_acts.proofs.Climbs.{climbed}
 use borrow.Author.Needs.{needs}
 use Rattle.method_posts.proofs.post_seal.Statement.{statement}

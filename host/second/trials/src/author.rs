@@ -6,6 +6,7 @@
 
 use crate::crafted::{random_id, random_pin, random_text};
 use crate::mutation::{mutate, Mutation, MUTATIONS};
+use crate::ordered::{write, Ordered, Written};
 use crate::random::Random;
 use crate::table::Column::{self, FirstForm, SecondForm, Status};
 use builder::{Built, CreateKey, CreatePinPolicy, CreatePuk, CreateSession, Issuer, Post, SetPath};
@@ -17,6 +18,8 @@ use second::records::{key, pending, policy, puk, session, Fields, Record};
 pub struct Order {
     pub intent: &'static str,
     pub built: Built,
+    /// What an issuer ordered, whatever was done to the call's bytes afterwards.
+    pub ordered: Option<(Issuer, Ordered)>,
     /// The refusal that the fault in it calls for; an earlier one of the order may come before it.
     pub fault: Option<Column>,
 }
@@ -58,12 +61,13 @@ fn by_handle(records: &[Record], kind: u8, handle: u32) -> Option<Record> {
     records.iter().find(|record| record.kind() == kind && record.own() == handle).copied()
 }
 
-fn order(intent: &'static str, built: Built) -> Order {
-    Order { intent, built, fault: None }
+fn order(intent: &'static str, written: impl Into<Written>) -> Order {
+    let Written { built, ordered } = written.into();
+    Order { intent, built, ordered, fault: None }
 }
 
-fn fault(intent: &'static str, column: Column, built: Built) -> Order {
-    Order { intent, built, fault: Some(column) }
+fn fault(intent: &'static str, column: Column, written: impl Into<Written>) -> Order {
+    Order { fault: Some(column), ..order(intent, written) }
 }
 
 impl Author {
@@ -136,30 +140,29 @@ impl Author {
         handles.retain(|handle| !open.contains(handle));
         let issuer = Issuer { session: self.random.pick(&handles), session_key: [0; 32], counter: 0 };
         let target = self.some_handle(records);
-        let built = match self.random.below(9) {
-            0 => builder::Close { nonce: b"nonce".to_vec(), client_session_id: b"client".to_vec() }.build(&issuer),
-            1 => builder::abort(issuer.session),
-            2 => CreatePuk::default().build(&issuer),
-            3 => CreatePinPolicy::default().build(&issuer),
-            4 => CreateKey::default().build(&issuer),
-            5 => SetPath {
-                key: target,
-                key_id: vec![b'k'],
-                public_key: vec![4],
-                certificates: vec![vec![1]],
-                miscount: 0,
+        let written = match self.random.below(9) {
+            0 => {
+                let close = builder::Close { nonce: b"nonce".to_vec(), client_session_id: b"client".to_vec() };
+                write(&issuer, close)
             }
-            .build(&issuer),
-            6 => Post::new(50, target).build(&issuer),
-            7 => Post::new(51, target).build(&issuer),
+            1 => builder::abort(issuer.session).into(),
+            2 => write(&issuer, CreatePuk::default()),
+            3 => write(&issuer, CreatePinPolicy::default()),
+            4 => write(&issuer, CreateKey::default()),
+            5 => {
+                let (key_id, public_key, certificates) = (vec![b'k'], vec![4], vec![vec![1]]);
+                write(&issuer, SetPath { key: target, key_id, public_key, certificates, miscount: 0 })
+            }
+            6 => write(&issuer, Post::new(50, target)),
+            7 => write(&issuer, Post::new(51, target)),
             _ => {
                 // No open session comes before the form.
-                let mut built = CreatePuk::default().build(&issuer);
-                mutate(&mut built, Mutation::LengthenCall, &mut self.random);
-                built
+                let mut written = write(&issuer, CreatePuk::default());
+                mutate(&mut written.built, Mutation::LengthenCall, &mut self.random);
+                written
             }
         };
-        fault("no open session", Status(5), built)
+        fault("no open session", Status(5), written)
     }
 
     /// Any handle: of what stands in the store, or of nothing.
@@ -363,43 +366,44 @@ impl Author {
             client_session_id: session.text(session::CLIENT_SESSION_ID, 32).to_vec(),
         };
         if !self.random.percent(10) {
-            return order("3", close.build(&issuer)).refused_if(!may_close(records, session), "3 not fit", Status(6));
+            return order("3", write(&issuer, close)).refused_if(!may_close(records, session), "3 not fit", Status(6));
         }
         match self.random.below(4) {
             0 => {
                 close.nonce = vec![1; self.random.pick(&[0, 65])];
-                fault("3 Nonce", SecondForm, close.build(&issuer))
+                fault("3 Nonce", SecondForm, write(&issuer, close))
             }
             1 => {
-                let mut built = close.build(&issuer);
-                built.chip = self.random.bytes(1);
-                fault("3 chip bytes", SecondForm, built)
+                let mut written = write(&issuer, close);
+                written.built.chip = self.random.bytes(1);
+                fault("3 chip bytes", SecondForm, written)
             }
             2 => {
                 close.client_session_id = session.id().to_vec();
                 let differs = session.id() != session.text(session::CLIENT_SESSION_ID, 32);
-                order("3 ServerSessionID in the MAC", close.build(&issuer)).refused_if(differs, "3 MAC", Status(3))
+                order("3 ServerSessionID in the MAC", write(&issuer, close)).refused_if(differs, "3 MAC", Status(3))
             }
-            _ => self.wrong_mac("3 MAC", close.build(&issuer), &issuer),
+            _ => self.wrong_mac("3 MAC", write(&issuer, close), &issuer),
         }
     }
 
     /// A MAC with one bit wrong, or of all bits but the first byte, or at another counter.
-    fn wrong_mac(&mut self, intent: &'static str, mut built: Built, issuer: &Issuer) -> Order {
-        let start = built.call.len() - 32;
+    fn wrong_mac(&mut self, intent: &'static str, mut written: Written, issuer: &Issuer) -> Order {
+        let call = &mut written.built.call;
+        let start = call.len() - 32;
         match self.random.below(4) {
             0 => {
                 let place = start + self.random.below(32);
-                built.call[place] ^= 1 << self.random.below(8);
+                call[place] ^= 1 << self.random.below(8);
             }
-            1 => built.call[start + 31] ^= 1,
-            2 => built.call[start + 1..].fill(0),
+            1 => call[start + 31] ^= 1,
+            2 => call[start + 1..].fill(0),
             _ => {
                 let code = issuer.code(b"createPUKPolicy", 1, b"");
-                built.call[start..].copy_from_slice(&code);
+                call[start..].copy_from_slice(&code);
             }
         }
-        fault(intent, Status(3), built)
+        fault(intent, Status(3), written)
     }
 
     fn free_id(&mut self, records: &[Record], session: &Record) -> Vec<u8> {
@@ -419,7 +423,7 @@ impl Author {
             value: random_text(&mut self.random, format, length),
         };
         if !self.random.percent(10) {
-            return order("8", new.build(&issuer)).refused_if(!has_room(session, 1), "8 counter", Status(17));
+            return order("8", write(&issuer, new)).refused_if(!has_room(session, 1), "8 counter", Status(17));
         }
         let (intent, column) = match self.random.below(8) {
             0 => {
@@ -431,7 +435,7 @@ impl Author {
                     new.id = id;
                     ("8 ID taken", Status(17))
                 }
-                None => return order("8", new.build(&issuer)),
+                None => return order("8", write(&issuer, new)),
             },
             2 => {
                 new.encrypted_value = vec![1; self.random.pick(&[0, 65])];
@@ -456,13 +460,13 @@ impl Author {
                     vec![0xf8, 0x80, 0x80, 0x80],
                 ]);
                 if pin::has_format(&new.value, new.format) {
-                    return order("8", new.build(&issuer));
+                    return order("8", write(&issuer, new));
                 }
                 ("8 text of the PUK", Status(17))
             }
-            _ => return self.wrong_mac("8 MAC", new.build(&issuer), &issuer),
+            _ => return self.wrong_mac("8 MAC", write(&issuer, new), &issuer),
         };
-        fault(intent, column, new.build(&issuer))
+        fault(intent, column, write(&issuer, new))
     }
 
     /// A handle that is no policy of that kind in this session.
@@ -497,7 +501,7 @@ impl Author {
             input_method: 0,
         };
         if !self.random.percent(12) {
-            return order("9", new.build(&issuer)).refused_if(!has_room(session, 1), "9 counter", Status(17));
+            return order("9", write(&issuer, new)).refused_if(!has_room(session, 1), "9 counter", Status(17));
         }
         let (intent, column) = match self.random.below(16) {
             0 => {
@@ -509,7 +513,7 @@ impl Author {
                     new.id = id;
                     ("9 ID taken", Status(17))
                 }
-                None => return order("9", new.build(&issuer)),
+                None => return order("9", write(&issuer, new)),
             },
             2 | 3 => {
                 new.puk = self.strange_handle(records, session, 2);
@@ -559,16 +563,16 @@ impl Author {
                 // The MAC of another PUK, or of none.
                 let right = new.puk_id.clone();
                 new.puk_id = if new.puk == 0 { b"PUK".to_vec() } else { b"#N/A".to_vec() };
-                let built = new.build(&issuer);
-                return order("9 MAC of another PUK", built).refused_if(
-                    right != new.puk_id,
+                let differs = right != new.puk_id;
+                return order("9 MAC of another PUK", write(&issuer, new)).refused_if(
+                    differs,
                     "9 MAC of another PUK",
                     Status(3),
                 );
             }
-            _ => return self.wrong_mac("9 MAC", new.build(&issuer), &issuer),
+            _ => return self.wrong_mac("9 MAC", write(&issuer, new), &issuer),
         };
-        fault(intent, column, new.build(&issuer))
+        fault(intent, column, write(&issuer, new))
     }
 
     fn key(&mut self, records: &[Record], session: &Record) -> Order {
@@ -602,7 +606,7 @@ impl Author {
         }
         new.delete_protection = self.random.pick(&protections);
         if !self.random.percent(15) {
-            return order("10", new.build(&issuer)).refused_if(!has_room(session, 2), "10 counter", Status(17));
+            return order("10", write(&issuer, new)).refused_if(!has_room(session, 2), "10 counter", Status(17));
         }
         self.faulty_key(records, session, policy, new, &issuer)
     }
@@ -656,7 +660,7 @@ impl Author {
                     new.id = id;
                     ("10 ID taken", Status(17))
                 }
-                None => return order("10", new.build(issuer)),
+                None => return order("10", write(issuer, new)),
             },
             2 => {
                 new.algorithm = self.wrong_algorithm(builder::KEY_ENTRY_ALGORITHM);
@@ -753,7 +757,7 @@ impl Author {
             25..=28 if policy.is_some() => {
                 let policy = policy.unwrap_or([0; 256]);
                 let Some(pin) = self.unfit_pin(records, &policy) else {
-                    return order("10", new.build(issuer));
+                    return order("10", write(issuer, new));
                 };
                 self.give_pin(&mut new, &policy, pin);
                 ("10 unfit PIN", Status(17))
@@ -766,7 +770,7 @@ impl Author {
             29 if issued => {
                 new.pin_in_data = None;
                 if new.pin_value == b"#N/A" {
-                    return order("10", new.build(issuer));
+                    return order("10", write(issuer, new));
                 }
                 ("10 MAC without the issuer's PIN", Status(3))
             }
@@ -774,9 +778,9 @@ impl Author {
                 new.policy_id = b"#N/A".to_vec();
                 ("10 MAC of another policy", Status(3))
             }
-            _ => return self.wrong_mac("10 MAC", new.build(issuer), issuer),
+            _ => return self.wrong_mac("10 MAC", write(issuer, new), issuer),
         };
-        fault(intent, column, new.build(issuer))
+        fault(intent, column, write(issuer, new))
     }
 
     /// A PIN of 0 to 16 bytes that this policy refuses; none if the tries fail.
@@ -833,7 +837,7 @@ impl Author {
         };
         let Some(key) = self.random.choose(&unready) else {
             if let Some(key) = self.random.choose(&keys).filter(|_| self.random.percent(30)) {
-                return fault("12 path set twice", Status(17), wish(&key, certificates).build(&issuer));
+                return fault("12 path set twice", Status(17), write(&issuer, wish(&key, certificates)));
             }
             if self.random.percent(30) {
                 return self.path_of_no_key(records, session, certificates);
@@ -842,45 +846,45 @@ impl Author {
         };
         let mut path = wish(&key, certificates);
         if !self.random.percent(10) {
-            return order("12", path.build(&issuer)).refused_if(!has_room(session, 1), "12 counter", Status(17));
+            return order("12", write(&issuer, path)).refused_if(!has_room(session, 1), "12 counter", Status(17));
         }
         match self.random.below(8) {
             0 => {
                 path.certificates = vec![];
-                fault("12 count 0", SecondForm, path.build(&issuer))
+                fault("12 count 0", SecondForm, write(&issuer, path))
             }
             1 => {
                 path.miscount = self.random.pick(&[1, 255]);
-                fault("12 count wrong", SecondForm, path.build(&issuer))
+                fault("12 count wrong", SecondForm, write(&issuer, path))
             }
             2 => {
                 let place = self.random.below(path.certificates.len());
                 path.certificates[place] = vec![];
-                fault("12 empty certificate", SecondForm, path.build(&issuer))
+                fault("12 empty certificate", SecondForm, write(&issuer, path))
             }
             3 => {
                 path.public_key.push(0);
-                fault("12 MAC of another public key", Status(3), path.build(&issuer))
+                fault("12 MAC of another public key", Status(3), write(&issuer, path))
             }
             4 => self.path_of_no_key(records, session, path.certificates),
             5 => {
-                let mut built = path.build(&issuer);
-                built.chip = vec![1];
-                fault("12 chip bytes", SecondForm, built)
+                let mut written = write(&issuer, path);
+                written.built.chip = vec![1];
+                fault("12 chip bytes", SecondForm, written)
             }
             6 => {
                 // The longest path that one call can hold, or a byte more.
                 let room = 16_384 - 10 - 32 - 2;
                 let more = self.random.below(2);
                 path.certificates = vec![vec![0x30; room + more]];
-                let built = path.build(&issuer);
+                let written = write(&issuer, path);
                 if more == 1 {
-                    fault("12 too long", FirstForm, built)
+                    fault("12 too long", FirstForm, written)
                 } else {
-                    order("12 longest", built)
+                    order("12 longest", written)
                 }
             }
-            _ => self.wrong_mac("12 MAC", path.build(&issuer), &issuer),
+            _ => self.wrong_mac("12 MAC", write(&issuer, path), &issuer),
         }
     }
 
@@ -891,7 +895,7 @@ impl Author {
             handle = self.random.word() as u32;
         }
         let path = SetPath { key: handle, key_id: b"Key".to_vec(), public_key: vec![4], certificates, miscount: 0 };
-        fault("12 no key of the session", Status(7), path.build(&issuer_of(session)))
+        fault("12 no key of the session", Status(7), write(&issuer_of(session), path))
     }
 
     fn post(&mut self, records: &[Record], session: &Record) -> Order {
@@ -918,43 +922,43 @@ impl Author {
                 } else {
                     "51 without PIN"
                 };
-                return fault(intent, Status(17), post.build(&issuer));
+                return fault(intent, Status(17), write(&issuer, post));
             }
             let closed: Vec<u32> = keys.iter().map(|key| key.own()).collect();
             post.key = self.some_handle(records);
             while closed.contains(&post.key) {
                 post.key = self.random.word() as u32;
             }
-            return fault("50/51 no key of a closed session", Status(7), post.build(&issuer));
+            return fault("50/51 no key of a closed session", Status(7), write(&issuer, post));
         }
         let Some(key) = self.random.choose(&fitting) else {
             return self.puk(records, session);
         };
         post.key = key.own();
         if !self.random.percent(10) {
-            return order("50/51", post.build(&issuer)).refused_if(!has_room(session, 1), "50/51 counter", Status(17));
+            return order("50/51", write(&issuer, post)).refused_if(!has_room(session, 1), "50/51 counter", Status(17));
         }
         match self.random.below(6) {
             0 => {
                 post.authorization = vec![1; self.random.pick(&[0, 513])];
-                fault("50/51 Authorization", SecondForm, post.build(&issuer))
+                fault("50/51 Authorization", SecondForm, write(&issuer, post))
             }
             1 => {
                 post.verified = self.random.pick(&[vec![], vec![2], vec![255], vec![1, 1]]);
-                fault("50/51 chip bytes", SecondForm, post.build(&issuer))
+                fault("50/51 chip bytes", SecondForm, write(&issuer, post))
             }
             2 | 3 => {
                 post.verified = vec![0];
-                fault("50/51 signature", Status(4), post.build(&issuer))
+                fault("50/51 signature", Status(4), write(&issuer, post))
             }
             4 => {
                 // The MAC of the sister method.
                 post.method = 101 - method;
-                let mut built = post.build(&issuer);
-                built.call[0] = method;
-                fault("50/51 MAC of the sister", Status(3), built)
+                let mut written = write(&issuer, post);
+                written.built.call[0] = method;
+                fault("50/51 MAC of the sister", Status(3), written)
             }
-            _ => self.wrong_mac("50/51 MAC", post.build(&issuer), &issuer),
+            _ => self.wrong_mac("50/51 MAC", write(&issuer, post), &issuer),
         }
     }
 

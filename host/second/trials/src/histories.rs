@@ -3,8 +3,10 @@
 use crate::author::{closed_keys, sessions, Author, Order};
 use crate::crafted::{random_store, spoil};
 use crate::notation::{hex, store_text, FILL};
+use crate::ordered::Ordered;
 use crate::random::Random;
 use crate::table::Column::{self, Status};
+use builder::Issuer;
 use second::records::session;
 
 /// One step of a history.
@@ -15,6 +17,7 @@ pub struct Step {
     pub before: Vec<u8>,
     pub call: Vec<u8>,
     pub chip: Vec<u8>,
+    pub ordered: Option<(Issuer, Ordered)>,
     pub reply_length: usize,
     pub status: u8,
     pub reply: Vec<u8>,
@@ -48,6 +51,7 @@ pub fn run(order: &Order, before: Vec<u8>, reply_length: usize) -> Step {
         before,
         call: order.built.call.clone(),
         chip: order.built.chip.clone(),
+        ordered: order.ordered.clone(),
         reply_length,
         status,
         reply,

@@ -8,6 +8,7 @@ pub mod events;
 pub mod histories;
 pub mod mutation;
 pub mod notation;
+pub mod ordered;
 pub mod random;
 pub mod sample;
 pub mod side_by_side;

@@ -1,0 +1,4 @@
+pub mod Meant
+pub mod ReadsBack
+pub mod NeverThree
+pub mod Attested

@@ -1,0 +1,3 @@
+pub mod Writing
+pub mod Cases
+pub mod Checks
