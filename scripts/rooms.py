@@ -18,7 +18,7 @@ PAGE = ROOT / "docs/ARCHITECTURE.md"
 NAMED = {
     "sha256": "hash", "hmac": "hash",
     "paper": "meaning", "laws": "meaning", "rule": "meaning", "worked": "meaning", "instances": "meaning",
-    "issued": "meaning",
+    "issued": "meaning", "issued_worked": "meaning",
     "token": "top", "issuer": "top", "story": "top", "lines": "top", "vectors": "top", "hash_c": "top",
 }
 

@@ -10,11 +10,10 @@ from __future__ import annotations
 
 import ctypes
 import os
-import pathlib
 import sys
 from typing import Callable
 
-from sks_issuer import CloseOrder, KeyOrder, Order, PathOrder, PinKind, PolicyOrder, PukOrder, Session
+from sks_issuer import CloseOrder, KeyOrder, Order, PathOrder, PinKind, PolicyOrder, PukOrder, Session, shared_library
 
 SESSION_ALGORITHM = b"http://xmlns.webpki.org/sks/algorithm#session.1"
 
@@ -23,8 +22,7 @@ class Token:
     """A store of 16 records, and the call that goes through it."""
 
     def __init__(self) -> None:
-        usual = pathlib.Path(__file__).resolve().parents[2] / "target" / "shared" / "libtoken.so"
-        self.library = ctypes.CDLL(os.environ.get("SKS_TOKEN", str(usual)))
+        self.library = shared_library("SKS_TOKEN", "libtoken.so", "make lib issuer")
         self.store = ctypes.create_string_buffer(16 * 256)
         lent = [ctypes.c_char_p, ctypes.c_size_t]
         self.library.sks_format.argtypes, self.library.sks_call.argtypes = lent, lent * 4

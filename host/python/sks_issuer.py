@@ -192,10 +192,17 @@ _TYPES = {
 _BITS = {"h": 32, "s": 16, "1": 8}
 
 
+def shared_library(variable: str, name: str, made_by: str) -> ctypes.CDLL:
+    """The shared object that the variable names, or the one of that name in target/shared."""
+    usual = pathlib.Path(__file__).resolve().parents[2] / "target" / "shared" / name
+    if variable not in os.environ and not usual.exists():
+        raise FileNotFoundError(f"there is no {usual}; run `{made_by}` at the top of the repository, or let {variable} name a {name}")
+    return ctypes.CDLL(os.environ.get(variable, str(usual)))
+
+
 @functools.cache
 def _library() -> ctypes.CDLL:
-    usual = pathlib.Path(__file__).resolve().parents[2] / "target" / "shared" / "libissuer.so"
-    library = ctypes.CDLL(os.environ.get("SKS_ISSUER", str(usual)))
+    library = shared_library("SKS_ISSUER", "libissuer.so", "make issuer")
     for name, parameters in _PARAMETERS.items():
         function = getattr(library, name)
         function.argtypes = [type_ for letter in parameters for type_ in _TYPES[letter]]

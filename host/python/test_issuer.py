@@ -121,6 +121,14 @@ class Calls(unittest.TestCase):
         self.assertNotEqual(key(pin_kind=PinKind.USER).build(at), made[3][0])
         self.assertEqual(policy(puk=0).build(at), sks.make_policy(*first, b"PIN", 0, sks.NA, 1, 0, 2, 3, 1, 4, 5, 6, 0)[0])
 
+    def test_the_page_puts_the_users_pin_in(self):
+        """docs/CALLS.md tells the place: the MAC that was made without the PIN stays right."""
+        order = key(pin_kind=PinKind.USER, pin_value=b"")
+        call = order.build(session())
+        at = 15 + len(order.id) + len(order.algorithm) + len(order.server_seed)
+        with_pin = call[:at] + sks.string(b"2580") + call[at + 2:]
+        self.assertEqual(with_pin, dataclasses.replace(order, pin_value=b"2580").build(session()))
+
     def test_attestations(self):
         at = session()
         of_key, of_close = (sks.mac(KEY, sks.ATTEST, 6, text) for text in (sks.string(b"Key") + sks.string(PUBLIC), sks.string(b"nonce")))

@@ -6,4 +6,3 @@ pub mod UnnamedPostFirst
 pub mod Conflict
 pub mod Apart
 pub mod Unnamed
-pub mod Issued
