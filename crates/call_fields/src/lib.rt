@@ -1,6 +1,7 @@
 // A call taken apart: for each method its numbers, and the places where its strings stand, by value. A string is the part
 // `string_at(c, place)` of the call, a MAC the 32 bytes at its place. Every field is read wherever it would stand,
 // whatever the call is: past the end a number is 0 and a part is shorter. What the fields are is said in the paper's Calls.
+#![tactic(auto)]
 ghost use Rattle.std.specs.Prelude.{◌≡◌, [], ◌+◌, ◌*◌, ◌≤◌};
 ghost use Rattle.sha256.specs.Sha256.{SHA256};
 ghost use Rattle.hmac.specs.Same.{same};
@@ -88,7 +89,7 @@ pub fn behind_strings(c: &[u8], k: u16, n: u8) -> usize
 }
 
 // 2 createProvisioningSession
-#[derive(Drop)]
+#[derive(Clone, Copy)]
 pub struct CreateFields {
     pub privacy: u8,
     pub server: usize,
@@ -122,7 +123,7 @@ pub fn create_fields(c: &[u8]) -> CreateFields
 }
 
 // 3 closeProvisioningSession
-#[derive(Drop)]
+#[derive(Clone, Copy)]
 pub struct CloseFields {
     pub mac: usize,
     pub end: usize,
@@ -139,7 +140,7 @@ pub fn close_fields(c: &[u8]) -> CloseFields
 }
 
 // 8 createPUKPolicy
-#[derive(Drop)]
+#[derive(Clone, Copy)]
 pub struct PukFields {
     pub encrypted: usize,
     pub format: u8,
@@ -163,7 +164,7 @@ pub fn puk_fields(c: &[u8]) -> PukFields
 }
 
 // 9 createPINPolicy
-#[derive(Drop)]
+#[derive(Clone, Copy)]
 pub struct PolicyFields {
     pub puk: u32,
     pub defined: u8,
@@ -200,7 +201,7 @@ pub fn policy_fields(c: &[u8]) -> PolicyFields
 }
 
 // 10 createKeyEntry
-#[derive(Drop)]
+#[derive(Clone, Copy)]
 pub struct KeyFields {
     pub entry: usize,
     pub seed: usize,
@@ -250,7 +251,7 @@ pub fn key_fields(c: &[u8]) -> KeyFields
 }
 
 // 12 setCertificatePath
-#[derive(Drop)]
+#[derive(Clone, Copy)]
 pub struct PathFields {
     pub key: u32,
     pub count: u8,
@@ -272,7 +273,7 @@ pub fn path_fields(c: &[u8]) -> PathFields
 }
 
 // 50 postDeleteKey, 51 postUnlockKey
-#[derive(Drop)]
+#[derive(Clone, Copy)]
 pub struct PostFields {
     pub key: u32,
     pub mac: usize,
@@ -291,7 +292,7 @@ pub fn post_fields(c: &[u8]) -> PostFields
 }
 
 // 80, 82, 100: what is typed stands at 5; 83: a new PIN stands behind it
-#[derive(Drop)]
+#[derive(Clone, Copy)]
 pub struct TypedFields {
     pub second: usize,
     pub end: usize,

@@ -1,9 +1,10 @@
 // A reader holds a call and knows its place in it. It is thin: each function takes it apart and leaves the work to a function on
 // the slice and the place. Whoever has a plain slice calls `string_in`, whose promise says nothing of a reader.
+#![tactic(auto)]
 ghost use Rattle.std.specs.Prelude.{◌≡◌};
 ghost use Rattle.paper.specs.Bytes.{string_at};
 
-#[derive(Drop)]
+#[derive(Clone, Copy)]
 pub struct Reader<'a> {
     pub call: &'a [u8],
     pub at: usize,

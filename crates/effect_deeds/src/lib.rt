@@ -1,6 +1,7 @@
 // What a removal, an unlocking, a close and a change of PIN make of every record, in one shot. First a plan is made by reading the
 // store alone, one number a record; then it is carried out, and nothing is read but the record at hand. So no record is judged by what
 // the same call has already written.
+#![tactic(auto)]
 ghost use Rattle.std.specs.Prelude.{◌≡◌, [], map, ◌/◌, ◌≤◌, get_or, set, length};
 ghost use Rattle.paper.specs.Bytes.{over};
 ghost use Rattle.paper.specs.Form.{test, some};
@@ -141,7 +142,7 @@ pub fn deal(s: &mut [u8], p: &[u8], v: &[u8])
 // ---- the plans of the three deeds
 
 // Who gets a new PIN: the key of this handle and session; if its policy's keys share one PIN, all keys of that policy.
-#[derive(Drop)]
+#[derive(Clone, Copy)]
 pub struct Pinned {
     pub key: u32,
     pub home: u32,
@@ -150,7 +151,7 @@ pub struct Pinned {
 }
 
 // What is done: keys removed and keys unlocked, a session closed, a key's PIN changed.
-#[derive(Drop)]
+#[derive(Clone, Copy)]
 pub enum Deed {
     Effect(Keys, Keys),
     Close(u32),
@@ -158,7 +159,7 @@ pub enum Deed {
 }
 
 // Handles from low to high.
-#[derive(Drop)]
+#[derive(Clone, Copy)]
 struct Span {
     low: u32,
     high: u32,

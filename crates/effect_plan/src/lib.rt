@@ -2,6 +2,7 @@
 // child goes, so every test is of one record against the store; what is found is a number for each record, carried out elsewhere.
 // Each set of keys is looked up once for all records, and its keys and the pendings on them are marked at their places. Most records
 // have nothing to do with them: only those of a session that has a marked key are looked at closely.
+#![tactic(auto)]
 ghost use Rattle.std.specs.Prelude.{true, false, cond, ◌&&◌, ◌||◌, [], ◌≡◌, ◌/◌, ◌≤◌, ◌<◌, eqb, length, get_or};
 ghost use Rattle.paper.specs.Limits.{record_bytes, most_records};
 ghost use Rattle.paper.specs.Form.{test, some};
@@ -30,7 +31,7 @@ pub const PUK_CLEARED: u8 = 3;
 pub const MADE_STALE: u8 = 4;
 
 // A set of keys: none; one, two or three handles; those on which a session has an unstale pending of an operation.
-#[derive(Drop)]
+#[derive(Clone, Copy)]
 pub enum Keys {
     Nobody,
     One(u32),
@@ -40,7 +41,7 @@ pub enum Keys {
 }
 
 // Sessions by handle: none, up to three, or all.
-#[derive(Drop)]
+#[derive(Clone, Copy)]
 enum Homes {
     Nowhere,
     Few(u32, u32, u32),
@@ -48,14 +49,14 @@ enum Homes {
 }
 
 // Whose keys are looked at: a policy's, by its handle and session, or a session's.
-#[derive(Drop)]
+#[derive(Clone, Copy)]
 enum Under {
     Policy(u32, u32),
     Session(u32),
 }
 
 // What a policy is looked for by: it goes, it stays, or a key of it is unlocked.
-#[derive(Drop)]
+#[derive(Clone, Copy)]
 enum Lot {
     Gone,
     Kept,

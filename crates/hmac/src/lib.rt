@@ -1,5 +1,6 @@
 // HMAC-SHA-256 (RFC 2104) in pieces, for keys of any length, and a comparison that looks at every byte.
 // What the MAC is stands in specs/Hmac.antt; what a MAC under way stands for in specs/Keyed.antt.
+#![tactic(auto)]
 ghost use Rattle.std.specs.Prelude.{◌≡◌, List, [], ◌++◌, ℕ, ◌≤◌, length};
 ghost use Rattle.hmac.specs.Hmac.{filled, key_block, xored, HMAC};
 ghost use Rattle.hmac.specs.Keyed.{Keyed};
@@ -8,7 +9,7 @@ ghost use Rattle.hmac.specs.Same.{same};
 use sha256::{State, Words};
 
 // A MAC under way, 136 bytes: the hash that has taken the inner key block, and the hash value of the outer.
-#[derive(Drop)]
+#[derive(Clone, Copy)]
 pub struct Mac {
     inner: State,
     outer: Words,

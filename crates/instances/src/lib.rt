@@ -2,4 +2,5 @@
 // constant here gives the crate a body.
 
 // Stores told.
+#![tactic(auto)]
 pub const STORES: usize = 3;

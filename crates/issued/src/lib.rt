@@ -1,4 +1,5 @@
 // Theorems on the issuer's half: the statements are in specs/, their proofs in proofs/. The one constant here gives the crate a body.
 
 // Bytes of a MAC.
+#![tactic(auto)]
 pub const MAC: usize = 32;

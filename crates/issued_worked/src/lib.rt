@@ -2,4 +2,5 @@
 // gives the crate a body.
 
 // Orders worked here.
+#![tactic(auto)]
 pub const ORDERS: usize = 7;

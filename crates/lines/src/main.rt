@@ -7,6 +7,7 @@
 // a call, 2 a call on the store as the case before left it), its name, the length of the store, its records (kind 2: none), the call, the
 // chip bytes, the status, the reply, the records that change. A number has 2 bytes, the store's length 4, kind and status 1. A string is
 // its length and its bytes. Records are their number, then each as its place in the store and a string; zeros at its end are left out.
+#![tactic(auto)]
 ghost use Rattle.std.specs.Prelude.{◌≡◌, ◌≤◌, length};
 
 use libc::STDOUT_FILENO;
@@ -16,7 +17,7 @@ use store_records::{byte_at, four_at, same, string_at, two_at};
 const FILL: u8 = 0xa5;
 
 // A case: what is a number by its value, what is longer by its place in the file. `next` is the place behind the case.
-#[derive(Drop)]
+#[derive(Clone, Copy)]
 struct Case {
     kind: u8,
     name: usize,
@@ -31,7 +32,7 @@ struct Case {
 }
 
 // The place behind the cases tried so far, how many they are, how many were as expected, and how many of those gave each status.
-#[derive(Drop)]
+#[derive(Clone, Copy)]
 struct Tally {
     at: usize,
     tried: u64,

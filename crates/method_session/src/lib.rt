@@ -1,5 +1,6 @@
 // Methods 2, 3 and 5: a session is made, closed or aborted. The session that closes comes by value, and the call's fields are decoded once. The
 // meaning is that of the paper's Sessions and Closing.
+#![tactic(auto)]
 ghost use Rattle.std.specs.Prelude.{◌≡◌, [], map, ◌+◌, ◌≤◌, get_or, set};
 ghost use Rattle.paper.specs.Bytes.{enc4, over, byte};
 ghost use Rattle.paper.specs.Form.{test, some, ◌==◌, ◌and◌};
@@ -183,7 +184,7 @@ pub fn create(s: &mut [u8], c: &[u8], chip: &[u8]) -> Reply
 // seals it, in one shot. A close in a store of more than 256 records answers 19 and changes nothing, so that its promise has no premise
 
 // What a close does not suffer: a key without path, a PUK or a policy without child, a stale pending.
-#[derive(Drop)]
+#[derive(Clone, Copy)]
 pub enum Flaw {
     Pathless,
     Childless,

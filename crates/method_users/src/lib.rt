@@ -2,6 +2,7 @@
 // reading alone: the key, its session, its policy and its PUK are each looked up once; the refusals come first, and then the value is
 // tried. That is a status and a deed, and the deed is done to the store.
 // A store of more than 256 records answers 19 and stays, so that no promise has a premise.
+#![tactic(auto)]
 ghost use Rattle.std.specs.Prelude.{◌≡◌, not, ◌&&◌, List, map, ℕ, eqb, length};
 ghost use Rattle.paper.specs.Form.{Rec, test, ◌==◌, no};
 ghost use Rattle.paper.specs.Records.{records};
@@ -31,7 +32,7 @@ use store_edits::{Edit, clear_count};
 use store_records::{Choice, byte_at, four_at, home, is_kind, policy_of, puk_of, target, text_at};
 
 // What a typed value comes to.
-#[derive(Drop)]
+#[derive(Clone, Copy)]
 enum Verdict {
     Locked,
     Wrong,
@@ -40,7 +41,7 @@ enum Verdict {
 
 // What is done to the store: nothing; a count is moved; a key is removed, or removed after its PUK's count became 0 (the key's handle,
 // the PUK's and its session); a key is unlocked; a key gets the call's new PIN.
-#[derive(Drop)]
+#[derive(Clone, Copy)]
 enum Deed {
     Nothing,
     Count(Choice, Edit),
@@ -51,7 +52,7 @@ enum Deed {
 }
 
 // What a call comes to.
-#[derive(Drop)]
+#[derive(Clone, Copy)]
 struct Step {
     status: u8,
     deed: Deed,

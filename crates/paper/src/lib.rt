@@ -3,6 +3,7 @@
 
 // ---- the store
 
+#![tactic(auto)]
 pub const RECORD_BYTES: usize = 256;
 
 pub const FEWEST_RECORDS: usize = 2;

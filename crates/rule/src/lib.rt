@@ -2,4 +2,5 @@
 // gives the crate a body.
 
 // Bytes of a record.
+#![tactic(auto)]
 pub const RECORD: usize = 256;

@@ -1,5 +1,6 @@
 // A record drafted field by field, in the order of its layout: start, add fields, finish. The draft goes in and comes back by value.
 // What would pass byte 256 is left out, and what is not written is zero, so nothing is asked of a field's length.
+#![tactic(auto)]
 ghost use Rattle.std.specs.Prelude.{◌≡◌, List, [], ◌∷◌, ◌++◌, ℕ, ◌+◌, ◌-◌, ◌≤◌, length, take};
 ghost use Rattle.paper.specs.Limits.{record_bytes};
 ghost use Rattle.paper.specs.Bytes.{enc2, enc4, zeros_of, padded_text as padded_to};
@@ -9,7 +10,7 @@ ghost use Rattle.store_draft.specs.Drafts.{Drafts, laid};
 use paper::RECORD_BYTES;
 
 // A record under way: its bytes, and the place of the next. Only the functions here make one, so each holds the bytes it was given.
-#[derive(Drop)]
+#[derive(Clone, Copy)]
 pub struct Draft {
     bytes: [u8; 256],
     at: usize,

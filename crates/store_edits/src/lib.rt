@@ -1,5 +1,6 @@
 // A lent store's records written. Each function says what the records are afterwards, and so every byte of the store: `Becomes` keeps
 // what stands behind the last whole record. A record is edited where it stands; past the last record nothing is written.
+#![tactic(auto)]
 ghost use Rattle.std.specs.Prelude.{◌≡◌, [], map, ◌+◌, ◌%◌, length, get_or, set};
 ghost use Rattle.paper.specs.Limits.{record_bytes};
 ghost use Rattle.paper.specs.Bytes.{zeros_of};
@@ -14,7 +15,7 @@ use paper::RECORD_BYTES;
 use store_records::{Choice, find, is_chosen, record_at};
 
 // What becomes of a record: it is freed; the count at a byte becomes 0, or one more.
-#[derive(Drop)]
+#[derive(Clone, Copy)]
 pub enum Edit {
     Free,
     Clear(u8),

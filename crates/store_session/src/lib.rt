@@ -1,4 +1,5 @@
 // A session's record by value: decoded once, its fields are read by name; encoded again, it is the record.
+#![tactic(auto)]
 ghost use Rattle.std.specs.Prelude.{◌≡◌, List, ◌++◌, ℕ};
 ghost use Rattle.paper.specs.Bytes.{two};
 ghost use Rattle.store_draft.specs.Drafts.{Drafts};
@@ -17,7 +18,7 @@ const NO_PARENT: u8 = HANDLE_BYTES as u8;
 const BEHIND: u8 = (RECORD_BYTES - SESSION_END) as u8;
 
 // The fields in the table's order, from byte 1 on. An ID is its length and 32 bytes, zero behind its length.
-#[derive(Drop)]
+#[derive(Clone, Copy)]
 pub struct Session {
     pub state: u8,
     pub next: u16,

@@ -8,13 +8,14 @@
 //   %0 to %6  how many records of this kind the store has
 //   %k  a copy of the store is kept, and %x the store and the copy change places
 //   %r  whether the two hold the same records, %p whether at the same places, and %o whether all but the first place is alike
+#![tactic(auto)]
 ghost use Rattle.std.specs.Prelude.{◌≤◌};
 
 use libc::STDOUT_FILENO;
 use store_records::{byte_at, four_at, part_of, same};
 
 // Bytes of a line: a call, its chip bytes, a reply. `next` is the place behind the next line's mark, which has three bytes.
-#[derive(Drop)]
+#[derive(Clone, Copy)]
 struct Draft {
     bytes: [u8; 256],
     size: usize,

@@ -1,4 +1,5 @@
 // Worked stores, computed by the checker: everything is in proofs/. The one constant here gives the crate a body.
 
 // Stories told.
+#![tactic(auto)]
 pub const STORIES: usize = 4;
