@@ -1,7 +1,9 @@
 // A call taken apart: for each method its numbers, and the places where its strings stand, by value. A string is the part
 // `string_at(c, place)` of the call, a MAC the 32 bytes at its place. Every field is read wherever it would stand,
 // whatever the call is: past the end a number is 0 and a part is shorter. What the fields are is said in the paper's Calls.
+
 #![tactic(auto)]
+
 ghost use Rattle.std.specs.Prelude.{◌≡◌, [], ◌+◌, ◌*◌, ◌≤◌};
 ghost use Rattle.sha256.specs.Sha256.{SHA256};
 ghost use Rattle.hmac.specs.Same.{same};

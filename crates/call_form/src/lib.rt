@@ -1,7 +1,9 @@
 // Whether a call and its chip bytes have the form of their method, for every slice. Each test is the paper's statement of that name
 // in Calls, clause by clause: the tests are total, so all of them may be asked, and none hides another. A call on a session comes with its
 // fields decoded, so that whoever decodes them does it once.
+
 #![tactic(auto)]
+
 ghost use Rattle.std.specs.Prelude.{◌≡◌};
 ghost use Rattle.paper.specs.Form.{test};
 ghost use Rattle.paper.specs.Calls.{is_session_call, is_user_call, known, length_at, id_at, abort_form, filled_at, typed_form, change_form};

@@ -1,7 +1,9 @@
 // The MAC and the attestation of each method, under a session's key and counter, made in pieces that go into the hash as they stand:
 // nothing is copied but the key. Once by name, for the issuer, who has an order; and by call and record, for the store. The promises
 // hold for every slice, of whatever form.
+
 #![tactic(auto)]
+
 ghost use Rattle.std.specs.Prelude.{◌≡◌, cond, List, [], ◌++◌, ℕ, ◌+◌, ◌≤◌, length, take};
 ghost use Rattle.hmac.specs.Keyed.{Keyed};
 ghost use Rattle.paper.specs.Bytes.{enc2, string, ascii};

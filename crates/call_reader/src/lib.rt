@@ -1,6 +1,8 @@
 // A reader holds a call and knows its place in it. It is thin: each function takes it apart and leaves the work to a function on
 // the slice and the place. Whoever has a plain slice calls `string_in`, whose promise says nothing of a reader.
+
 #![tactic(auto)]
+
 ghost use Rattle.std.specs.Prelude.{◌≡◌};
 ghost use Rattle.paper.specs.Bytes.{string_at};
 

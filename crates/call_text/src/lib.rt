@@ -1,6 +1,8 @@
 // Whether a PIN or PUK has its format, breaks a pattern rule, and meets the rule of its policy.
 // The rules stand in paper's Text.antt; what the loops below carry in specs/Runs.antt.
+
 #![tactic(auto)]
+
 ghost use Rattle.std.specs.Prelude.{◌≡◌, ◌&&◌, ◌+◌, ◌<◌, eqb, length};
 ghost use Rattle.paper.specs.Bytes.{within};
 ghost use Rattle.paper.specs.Text.{alphanumeric, utf8, format_fits, two_equal, three_equal, stepped, is_set, pattern_fits, pin_fits};

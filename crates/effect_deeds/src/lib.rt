@@ -1,7 +1,9 @@
 // What a removal, an unlocking, a close and a change of PIN make of every record, in one shot. First a plan is made by reading the
 // store alone, one number a record; then it is carried out, and nothing is read but the record at hand. So no record is judged by what
 // the same call has already written.
+
 #![tactic(auto)]
+
 ghost use Rattle.std.specs.Prelude.{◌≡◌, [], map, ◌/◌, ◌≤◌, get_or, set, length};
 ghost use Rattle.paper.specs.Bytes.{over};
 ghost use Rattle.paper.specs.Form.{test, some};

@@ -2,7 +2,9 @@
 // child goes, so every test is of one record against the store; what is found is a number for each record, carried out elsewhere.
 // Each set of keys is looked up once for all records, and its keys and the pendings on them are marked at their places. Most records
 // have nothing to do with them: only those of a session that has a marked key are looked at closely.
+
 #![tactic(auto)]
+
 ghost use Rattle.std.specs.Prelude.{true, false, cond, ◌&&◌, ◌||◌, [], ◌≡◌, ◌/◌, ◌≤◌, ◌<◌, eqb, length, get_or};
 ghost use Rattle.paper.specs.Limits.{record_bytes, most_records};
 ghost use Rattle.paper.specs.Form.{test, some};

@@ -1,5 +1,7 @@
 // SHA-256 and HMAC-SHA-256 for C: each hashes whole slices in one call. A slice is passed as a pointer, then a length.
+
 #![tactic(auto)]
+
 ghost use Rattle.std.specs.Prelude.{◌≡◌};
 ghost use Rattle.sha256.specs.Sha256.{SHA256};
 ghost use Rattle.hmac.specs.Hmac.{HMAC};

@@ -1,6 +1,8 @@
 // HMAC-SHA-256 (RFC 2104) in pieces, for keys of any length, and a comparison that looks at every byte.
 // What the MAC is stands in specs/Hmac.antt; what a MAC under way stands for in specs/Keyed.antt.
+
 #![tactic(auto)]
+
 ghost use Rattle.std.specs.Prelude.{◌≡◌, List, [], ◌++◌, ℕ, ◌≤◌, length};
 ghost use Rattle.hmac.specs.Hmac.{filled, key_block, xored, HMAC};
 ghost use Rattle.hmac.specs.Keyed.{Keyed};

@@ -1,7 +1,9 @@
 // The issuer's half: the calls of methods 3, 8, 9, 10, 12, 50 and 51 written from an order, and the two attestations checked. For C, where a
 // slice is passed as a pointer, then a length. Each builder tests the range of its order, then the room in the buffer; then it makes the
 // MAC from the order's own slices and writes the call. No order is asked to be in range, and none reaches outside what is lent.
+
 #![tactic(auto)]
+
 ghost use Rattle.std.specs.Prelude.{◌≡◌, List, [], ◌∷◌, ◌++◌, ℕ, ◌+◌, ◌≤◌, length};
 ghost use Rattle.paper.specs.Bytes.{enc2, enc4, string};
 ghost use Rattle.paper.specs.Form.{test, ◌==◌, ◌=<◌, ◌and◌};

@@ -1,5 +1,6 @@
 // Laws of document 01's definitions: everything is in proofs/. The one constant here gives the crate a body.
 
-// Bytes of a record.
 #![tactic(auto)]
+
+// Bytes of a record.
 pub const RECORD: usize = 256;

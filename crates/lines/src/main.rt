@@ -7,7 +7,9 @@
 // a call, 2 a call on the store as the case before left it), its name, the length of the store, its records (kind 2: none), the call, the
 // chip bytes, the status, the reply, the records that change. A number has 2 bytes, the store's length 4, kind and status 1. A string is
 // its length and its bytes. Records are their number, then each as its place in the store and a string; zeros at its end are left out.
+
 #![tactic(auto)]
+
 ghost use Rattle.std.specs.Prelude.{◌≡◌, ◌≤◌, length};
 
 use libc::STDOUT_FILENO;

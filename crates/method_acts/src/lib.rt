@@ -1,6 +1,8 @@
 // What the methods share: the order of refusals as code, rung by rung, and what a call comes to, done to the store. Every test is total,
 // so that all of them may be asked and the code reads as the paper's list does. The meaning is that of the paper's Act.
+
 #![tactic(auto)]
+
 ghost use Rattle.std.specs.Prelude.{◌≡◌, ◌&&◌, ◌||◌, [], map, ◌≤◌, get_or, set};
 ghost use Rattle.method_acts.specs.Rungs.{or_else, status};
 ghost use Rattle.method_acts.specs.Answers.{bare_reply, Answers};

@@ -1,7 +1,9 @@
 // Methods 10 and 12: a session makes a key, and gives it its certificate path. The session comes by value, and the call's fields are decoded
 // once. Each method is a status, which only reads, and then what is written: the session's counters with the new record or the digest, or the
 // session freed. The meaning is that of the paper's Objects.
+
 #![tactic(auto)]
+
 ghost use Rattle.std.specs.Prelude.{◌≡◌, [], map, get_or, set};
 ghost use Rattle.paper.specs.Bytes.{over};
 ghost use Rattle.paper.specs.Form.{test, some, only};

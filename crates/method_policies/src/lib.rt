@@ -1,6 +1,8 @@
 // Methods 8 and 9: a session makes a PUK or a PIN policy. Each is a status, which only reads, and then what is written: the session's
 // counters and the new record, or the session freed. The meaning is that of the paper's Objects.
+
 #![tactic(auto)]
+
 ghost use Rattle.std.specs.Prelude.{◌≡◌, []};
 ghost use Rattle.paper.specs.Records.{records, at, block, PUK};
 ghost use Rattle.paper.specs.Calls.{subject, puk_in, policy_in};

@@ -1,7 +1,9 @@
 // Methods 50 and 51: a session asks for the removal or the unlocking of a key of a closed session. Each is a status, which only reads,
 // and then what is written: the session's counters and a pending, or the session freed. The meaning is that of the paper's Posting.
 // A pending that is stale is left as it is: asking again makes a new one.
+
 #![tactic(auto)]
+
 ghost use Rattle.std.specs.Prelude.{◌≡◌};
 ghost use Rattle.paper.specs.Records.{records, block};
 ghost use Rattle.paper.specs.Calls.{subject, post_in};

@@ -1,6 +1,8 @@
 // Methods 2, 3 and 5: a session is made, closed or aborted. The session that closes comes by value, and the call's fields are decoded once. The
 // meaning is that of the paper's Sessions and Closing.
+
 #![tactic(auto)]
+
 ghost use Rattle.std.specs.Prelude.{◌≡◌, [], map, ◌+◌, ◌≤◌, get_or, set};
 ghost use Rattle.paper.specs.Bytes.{enc4, over, byte};
 ghost use Rattle.paper.specs.Form.{test, some, ◌==◌, ◌and◌};

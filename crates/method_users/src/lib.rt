@@ -2,7 +2,9 @@
 // reading alone: the key, its session, its policy and its PUK are each looked up once; the refusals come first, and then the value is
 // tried. That is a status and a deed, and the deed is done to the store.
 // A store of more than 256 records answers 19 and stays, so that no promise has a premise.
+
 #![tactic(auto)]
+
 ghost use Rattle.std.specs.Prelude.{◌≡◌, not, ◌&&◌, List, map, ℕ, eqb, length};
 ghost use Rattle.paper.specs.Form.{Rec, test, ◌==◌, no};
 ghost use Rattle.paper.specs.Records.{records};

@@ -1,9 +1,10 @@
 // The layout of records, calls and replies in document 01, and its numbers, each said once for code. Nothing here need be believed:
 // the promises cite the definitions in specs/, so a wrong number is refused by the prover.
 
+#![tactic(auto)]
+
 // ---- the store
 
-#![tactic(auto)]
 pub const RECORD_BYTES: usize = 256;
 
 pub const FEWEST_RECORDS: usize = 2;

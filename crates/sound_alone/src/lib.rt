@@ -1,6 +1,8 @@
 // The clauses of soundness that speak of one record: the table, field by field, and then each clause as the paper's statement of it.
 // A sound record passes every test, so the tests of a kind are all made and joined without a branch.
+
 #![tactic(auto)]
+
 ghost use Rattle.std.specs.Prelude.{◌≡◌, ◌&&◌, ◌-◌, ◌≤◌, length, take, drop};
 ghost use Rattle.paper.specs.Table.{u8 as Byte, u16 as Two, u32 as Four, blank, text, ident, is_blank, printable, field_fits, fits, session_fields, puk_fields, policy_fields, key_fields, pending_fields, counter_fields, fields_of, obeys_table};
 ghost use Rattle.paper.specs.Limits.{key_bytes};

@@ -1,5 +1,7 @@
 // What one record of a store asks of the others: the clauses that say that some record is there, and those that say something of each.
+
 #![tactic(auto)]
+
 ghost use Rattle.std.specs.Prelude.{◌≡◌};
 ghost use Rattle.paper.specs.Form.{test, each, ◌==◌, no, ◌then◌};
 ghost use Rattle.paper.specs.Records.{records, kind, parent, session};

@@ -1,6 +1,8 @@
 // The clauses of soundness that speak of two records, each as the paper's statement of it. They are tried on every pair, so the kinds
 // decide first: most pairs are done after one or two bytes, and IDs are compared only where two objects bear one session.
+
 #![tactic(auto)]
+
 ghost use Rattle.std.specs.Prelude.{◌≡◌};
 ghost use Rattle.paper.specs.Form.{test};
 ghost use Rattle.paper.specs.Sound.{has_handle, has_id, is_object, one_counter, handles_differ, ids_differ, clients_differ, one_pending, distinct, below_next, below_counter, governs, paths_set, pending_open, target_managed, target_pinned, related, closed};

@@ -1,5 +1,7 @@
 // Soundness the quick way. A yes is proved to be one; a no says nothing, and the exact test decides.
+
 #![tactic(auto)]
+
 ghost use Rattle.std.specs.Prelude.{false, ◌≡◌, map, ◌++◌, ◌-◌, ◌/◌, ◌≤◌, length, take, drop};
 ghost use Rattle.paper.specs.Limits.{record_bytes, most_records};
 ghost use Rattle.paper.specs.Bytes.{zeros_of};

@@ -1,5 +1,7 @@
 // Whether a store is sound: the paper's clauses over all records and all pairs of records, for a slice of any length.
+
 #![tactic(auto)]
+
 ghost use Rattle.std.specs.Prelude.{◌≡◌, true, ◌/◌, ◌≤◌, ◌<◌, length, drop};
 ghost use Rattle.paper.specs.Limits.{record_bytes, most_records};
 ghost use Rattle.paper.specs.Form.{test, every, each};

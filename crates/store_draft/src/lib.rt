@@ -1,6 +1,8 @@
 // A record drafted field by field, in the order of its layout: start, add fields, finish. The draft goes in and comes back by value.
 // What would pass byte 256 is left out, and what is not written is zero, so nothing is asked of a field's length.
+
 #![tactic(auto)]
+
 ghost use Rattle.std.specs.Prelude.{◌≡◌, List, [], ◌∷◌, ◌++◌, ℕ, ◌+◌, ◌-◌, ◌≤◌, length, take};
 ghost use Rattle.paper.specs.Limits.{record_bytes};
 ghost use Rattle.paper.specs.Bytes.{enc2, enc4, zeros_of, padded_text as padded_to};

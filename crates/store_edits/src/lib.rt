@@ -1,6 +1,8 @@
 // A lent store's records written. Each function says what the records are afterwards, and so every byte of the store: `Becomes` keeps
 // what stands behind the last whole record. A record is edited where it stands; past the last record nothing is written.
+
 #![tactic(auto)]
+
 ghost use Rattle.std.specs.Prelude.{◌≡◌, [], map, ◌+◌, ◌%◌, length, get_or, set};
 ghost use Rattle.paper.specs.Limits.{record_bytes};
 ghost use Rattle.paper.specs.Bytes.{zeros_of};

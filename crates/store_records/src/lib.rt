@@ -1,7 +1,9 @@
 // A lent store as records, over total readers of any slice of bytes. Past the end of a slice a byte is 0 and a part is the shorter part;
 // past the last whole record a record is empty, and every byte of it reads 0. So nothing is asked of any slice, and every promise is that
 // of the paper's Bytes and Records. First the readers, then records and look-ups, then the key that a call names with its kin.
+
 #![tactic(auto)]
+
 ghost use Rattle.std.specs.Prelude.{◌≡◌, ◌+◌, ◌*◌, ◌≤◌, [], length, get_or};
 ghost use Rattle.hmac.specs.Same.{same as same_bytes};
 ghost use Rattle.paper.specs.Bytes.{byte, two, four, part, string_at, behind, text_at, within, all_within};

@@ -1,5 +1,7 @@
 // A session's record by value: decoded once, its fields are read by name; encoded again, it is the record.
+
 #![tactic(auto)]
+
 ghost use Rattle.std.specs.Prelude.{◌≡◌, List, ◌++◌, ℕ};
 ghost use Rattle.paper.specs.Bytes.{two};
 ghost use Rattle.store_draft.specs.Drafts.{Drafts};

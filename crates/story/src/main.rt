@@ -8,7 +8,9 @@
 //   %0 to %6  how many records of this kind the store has
 //   %k  a copy of the store is kept, and %x the store and the copy change places
 //   %r  whether the two hold the same records, %p whether at the same places, and %o whether all but the first place is alike
+
 #![tactic(auto)]
+
 ghost use Rattle.std.specs.Prelude.{◌≤◌};
 
 use libc::STDOUT_FILENO;

@@ -1,6 +1,8 @@
 // The token's two functions: a store is formatted, a call is answered. Both take any bytes. The meaning is that of the paper's Answer.
 // Whatever is refused before the method is known, or before its session is found open, leaves the store as it is.
+
 #![tactic(auto)]
+
 ghost use Rattle.std.specs.Prelude.{◌≡◌, true, ◌∷◌, map, ◌≤◌, length};
 ghost use Rattle.paper.specs.Bytes.{enc4, over};
 ghost use Rattle.paper.specs.Calls.{method};

@@ -1,7 +1,9 @@
 // Test vectors of SHA-256 and HMAC-SHA-256. Each message is taken at once and in uneven pieces, both digests are compared
 // with the one expected, and a line says whether they agree. The last line counts the vectors, and those that are right.
 // Expected digests are written in hexadecimal, as the standards print them.
+
 #![tactic(auto)]
+
 ghost use Rattle.std.specs.Prelude.{◌≡◌, ◌<◌, ◌≤◌, length};
 
 use libc::STDOUT_FILENO;

@@ -1,5 +1,6 @@
 // Worked stores, computed by the checker: everything is in proofs/. The one constant here gives the crate a body.
 
-// Stories told.
 #![tactic(auto)]
+
+// Stories told.
 pub const STORIES: usize = 4;
