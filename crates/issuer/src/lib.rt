@@ -139,7 +139,7 @@ fn put(out: &mut [u8], k: usize, v: &[u8]) -> usize
     requires { k + length v.now ≤ length out.old }
     ensures { Wrote v.now k result out.old out.new }
 {
-    bytes::copy(v, &mut out[k..k + v.len()]);
+    out[k..k + v.len()].copy_from_slice(v);
     k + v.len()
 }
 
@@ -187,7 +187,7 @@ fn key_of(key: &[u8]) -> [u8; 32]
     ensures { result ≡ key.now }
 {
     let mut r = [0u8; 32];
-    bytes::copy(key, &mut r);
+    r.copy_from_slice(key);
     r
 }
 

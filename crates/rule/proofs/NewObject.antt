@@ -173,5 +173,5 @@ module _ (s N used : ℕ) (rs : List Rec) (F : Facts rs) (R : Ready s N used rs)
             let K = kin x i in
             let k1 = K.kind= in
             let g = S.managed x i (omega arith) j z (sym (K.own= (omega arith)) ∙ e) in
-            (K.Stays-closed (omega arith) g.0, K.managed= (omega arith) ∙ g.1));
+            (K.stays_closed (omega arith) g.0, K.managed= (omega arith) ∙ g.1));
       })

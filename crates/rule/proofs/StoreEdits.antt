@@ -151,7 +151,7 @@ module _ (f : Rec → Rec) (rs : List Rec) (F : Facts rs) (E : Edit f rs) where
       managed_target X Y a b n e (inl q) =
           let Xo = X.own= (omega arith) in
           let g = R.target_managed (omega arith) (omega arith) (λ z. n (omega arith)) (omega arith) in
-          (X.Stays-closed (omega arith) g.0, X.managed= (omega arith) ∙ g.1)
+          (X.stays_closed (omega arith) g.0, X.managed= (omega arith) ∙ g.1)
       managed_target X Y a b n e (inr q) = absurd (n q)
 
       pinned_target : Kin x (f x) → Kin y (f y) → kind (f x) ≡ KEY → kind (f y) ≡ PENDING → parent (f y) ≡ own (f x) → operation (f y) ≡ 51 → parent (f x) ≡ 0

@@ -77,11 +77,6 @@ zeros_more r i h e = rw (add-one i, take-suc-set r i 0 h, e) (one_more i)
 pub zeros_all : (r₀ r : List ℕ) (i : ℕ) → length r ≡ length r₀ → i ≤ length r → length r ≤ i → take i r ≡ zeros_of i → r ≡ zeros_of (length r₀)
 zeros_all r₀ r i l p q e = let z : i ≡ length r₀ = omega arith in sym (take_all i r q) ∙ e ∙ rw z
 
--- a copy that fills its place
-pub copied : (r x d : List ℕ) → d ≡ take (length r) r ++ x → length d ≡ length r → d ≡ r
-copied r [] d e l = e ∙ rw (take-length, append-nil)
-copied r (y ∷ ys) d e l = absurd (omega (arith, simp (take-length, length-append) at (ap length e)))
-
 -- the part that was lent comes back with t in it
 pub put_mid_lem : (s : List ℕ) (i : ℕ) (r t : List ℕ) → i < length s / 256 → length r ≡ 256 → r ≡ t
     → Becomes (set (records s) i t) s (put_mid (256 * i) ((256 * i + 256) - 256 * i) s r)
@@ -103,10 +98,8 @@ module _ (s : List ℕ) (i : ℕ) where
   unfolding zeros
   copy_out h = sym (get_or-eq_default (records s) (zeros_of 256) (omega (arith, length-records s)))
 
-  pub copy_in : i < length s / 256 → (p x d : List ℕ) → p ≡ take ((256 * i + 256) - 256 * i) (drop (256 * i) s) → d ≡ take (length p) p ++ x → length d ≡ 256 → d ≡ get_or (records s) i zeros
-  copy_in h p x d q e l =
-      let n : length p ≡ 256 = ap length (q ∙ shown s i h) ∙ length-record s i h in
-      copied p x d e (l ∙ sym n) ∙ q ∙ shown s i h ∙ any_default (records s) i [] zeros (omega (arith, length-records s))
+  pub copy_in : i < length s / 256 → (p d : List ℕ) → p ≡ take ((256 * i + 256) - 256 * i) (drop (256 * i) s) → d ≡ p → d ≡ get_or (records s) i zeros
+  copy_in h p d q e = e ∙ q ∙ shown s i h ∙ any_default (records s) i [] zeros (omega (arith, length-records s))
 
 -- an edit at one place, and of those only that a statement is about
 pub edit_mid : (f : Rec → Rec) (s : List ℕ) (i : ℕ) (r : List ℕ) → i < length s / 256 → length r ≡ 256

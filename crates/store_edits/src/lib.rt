@@ -34,7 +34,7 @@ pub fn copy_of(s: &[u8], i: usize) -> [u8; 256]
     }
     let a = RECORD_BYTES * i;
     let e = a + RECORD_BYTES;
-    bytes::copy(&s[a..e], &mut r);
+    r.copy_from_slice(&s[a..e]);
     r
 }
 
@@ -45,7 +45,7 @@ pub fn put(s: &mut [u8], i: usize, r: &[u8; 256])
     if i < s.len() / RECORD_BYTES {
         let from = RECORD_BYTES * i;
         let to = from + RECORD_BYTES;
-        bytes::copy(r, &mut s[from..to]);
+        s[from..to].copy_from_slice(r);
     }
 }
 

@@ -182,10 +182,10 @@ pub part_short : (r : List ℕ) (k n : ℕ) → length (part k n r) ≤ n
 unfolding part
 part_short r k n = simp length-take (omega arith)
 
--- a copy into 32 zeros
-pub block_copied : (r v d : List ℕ) (k : ℕ) → v ≡ part k 32 r → d ≡ take (length v) v ++ drop (length v) (zeros_of 32) → d ≡ block k r
+-- a part, copied into 32 zeros
+pub block_copied : (r v d : List ℕ) (k : ℕ) → v ≡ part k 32 r → d ≡ v ++ drop (length v) (zeros_of 32) → d ≡ block k r
 unfolding block
-block_copied r v d k e f = f ∙ rw (take-length, e)
+block_copied r v d k e f = f ∙ rw e
 
 -- fields written one after another
 pub ids-flat : (w a s b c : List ℕ) → (((w ++ a) ++ s) ++ b) ++ c ≡ w ++ (a ++ (s ++ (b ++ (c ++ []))))

@@ -43,7 +43,8 @@ fn block_of(r: &[u8], k: usize) -> [u8; 32]
     ensures { result ≡ block k r.now }
 {
     let mut b = [0u8; 32];
-    bytes::copy(part_of(r, k, 32), &mut b);
+    let part = part_of(r, k, 32);
+    b[..part.len()].copy_from_slice(part);
     b
 }
 

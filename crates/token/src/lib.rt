@@ -186,7 +186,7 @@ fn write_attestation(b: &mut [u8], a: [u8; 32])
     requires { 37 ≤ length b.old }
     ensures { b.new ≡ over 5 a b.old }
 {
-    bytes::copy(&a, &mut b[REPLY_ATTESTATION..REPLY_BYTES]);
+    b[REPLY_ATTESTATION..REPLY_BYTES].copy_from_slice(&a);
 }
 
 // The answer to a call. A reply of fewer than 37 bytes is not written, and nothing is done.
