@@ -1,0 +1,12 @@
+-- Invariant: what is done and what is to do make up the whole plan (`turns_step`, `turns_done`).
+use Prim.Native.Nat.{◌-◌, ◌/◌}
+use Rattle.effect_deeds.proofs.Turns.{Turns}
+use Rattle.effect_deeds.specs.Deeds.{turn}
+use lib.ListN.{length}
+use Rattle.effect_deeds.proofs.deal.Given as goal
+
+abbrev pub invariant-loop-i : goal.invariant-loop-i
+invariant-loop-i l = Turns (turn l.v l.p) l.initial.s l.s l.i
+
+abbrev pub decreases-loop-i : goal.decreases-loop-i
+decreases-loop-i l = length l.initial.s / 256 - l.i
