@@ -1,0 +1,24 @@
+-- An order out of range, a buffer that is too short, and a call that was written: one law each.
+use mathlib.Core.Path.{sym, ◌∙◌}
+use native.Mathlib.Omega.{arith}
+use borrow.Author.Tests.{not-true, not-false}
+use Rattle.issuer.proofs.Cases.{out_of_range, no_room, written, length_policy}
+use Rattle.issuer.proofs.sks_build_policy.Goals as goal
+
+pub returns-then-not-is_policy : goal.returns-then-not-is_policy
+returns-then-not-is_policy c = out_of_range _ _ _ (sym c.is_policy.ensures.answer ∙ not-true _ c.if-not-is_policy.true-raw)
+
+pub returns-then-out-fields : goal.returns-then-out-fields
+returns-then-out-fields c =
+    let f = c.is_policy.ensures.holds (not-false _ c.if-not-is_policy.false-raw) in
+    no_room _ _ _ (length_policy _ _) f (omega arith) (omega arith)
+
+pub write_policy-requires : goal.write_policy-requires
+write_policy-requires c =
+    let f = c.is_policy.ensures.holds (not-false _ c.if-not-is_policy.false-raw) in
+    (f.0.0, omega arith)
+
+pub returns : goal.returns
+returns c =
+    let f = c.is_policy.ensures.holds (not-false _ c.if-not-is_policy.false-raw) in
+    written _ _ _ (length_policy _ _) f (omega arith) (omega arith) c.write_policy.ensures

@@ -1,0 +1,32 @@
+-- No SessionKey or no next counter; a value of another length; and else the two are compared: one law each.
+use mathlib.Core.Path.{sym, ◌∙◌}
+use Prim.Native.Nat.{◌+◌}
+use lib.ListN.{length}
+use borrow.Author.Tests.{not-true, not-false}
+use Rattle.paper.specs.Bytes.{string}
+use Rattle.paper.specs.Form.{◌==◌, ◌=<◌, ◌and◌}
+use Rattle.paper.proofs.Forms.{both}
+use Rattle.issuer.proofs.Checks.{unready, of_other_length, compared}
+use Rattle.issuer.proofs.sks_check_close.Goals as goal
+
+pub returns-then-not-is_ready : goal.returns-then-not-is_ready
+returns-then-not-is_ready c =
+    let a = c.args in
+    unready a.key.now a.counter (string a.nonce.now) a.attestation.now (sym c.is_ready.ensures ∙ not-true _ c.if-not-is_ready.true-raw)
+
+pub returns-then-attestation-ne-MAC_BYTES : goal.returns-then-attestation-ne-MAC_BYTES
+returns-then-attestation-ne-MAC_BYTES c =
+    let a = c.args in
+    of_other_length a.key.now a.counter (string a.nonce.now) a.attestation.now c.if-attestation-ne-MAC_BYTES.true
+
+pub key_of-k-requires : goal.key_of-k-requires
+key_of-k-requires c =
+    let a = c.args in
+    ((both (length a.key.now == 32 and a.counter + 1 =< 65535)).0 (sym c.is_ready.ensures ∙ not-false _ c.if-not-is_ready.false-raw)).0
+
+pub returns : goal.returns
+returns c =
+    let a = c.args in
+    compared a.key.now a.counter (string a.nonce.now) a.attestation.now
+    (sym c.is_ready.ensures ∙ not-false _ c.if-not-is_ready.false-raw) c.if-attestation-ne-MAC_BYTES.false
+    (c.is_same.ensures ∙ rw (c.attested_close_under-made.ensures, c.key_of-k.ensures))

@@ -1,0 +1,26 @@
+-- The range first (`long`), then the refusals (`stopped`), then what is done (`passed`).
+use Rattle.paper.specs.Records.{records}
+use Rattle.paper.specs.Calls.{typed_new}
+use mathlib.Core.Path.{◌∙◌}
+use Rattle.paper.specs.Users.{change_pin}
+use Rattle.method_users.proofs.Methods.{seen, method83, stopped, passed, long, ranged, fits, all_repinned}
+use Rattle.method_users.proofs.change_step.Goals as goal
+
+pub returns-then-store-gt-MOST_RECORDS : goal.returns-then-store-gt-MOST_RECORDS
+returns-then-store-gt-MOST_RECORDS c =
+    let a = c.args in
+    long (change_pin a.c.now a.chip.now) a.store.now c.if-store-gt-MOST_RECORDS.true
+
+pub returns-then-n-ne-DONE : goal.returns-then-n-ne-DONE
+returns-then-n-ne-DONE c =
+    let a = c.args in
+    let rs = records a.store.now in
+    let s = seen a.c.now rs c.four_at-k.ensures c.target-x.ensures c.home.ensures in
+    ranged (change_pin a.c.now a.chip.now) a.store.now c.if-store-gt-MOST_RECORDS.false (stopped (method83 a.c.now a.chip.now rs s) (c.change_status-n.ensures rs s ∙ rw c.policy_of-pol.ensures) c.if-n-ne-DONE.true)
+
+pub returns : goal.returns
+returns c =
+    let a = c.args in
+    let rs = records a.store.now in
+    let s = seen a.c.now rs c.four_at-k.ensures c.target-x.ensures c.home.ensures in
+    ranged (change_pin a.c.now a.chip.now) a.store.now c.if-store-gt-MOST_RECORDS.false (passed (method83 a.c.now a.chip.now rs s) (c.change_status-n.ensures rs s ∙ rw c.policy_of-pol.ensures) c.if-n-ne-DONE.false (c.by_pin.ensures (typed_new a.c.now) rs ∙ rw (fits a.store.now c.if-store-gt-MOST_RECORDS.false, c.pinned.ensures, c.policy_of-pol.ensures, c.type_inv.ensures, all_repinned c.target-x.result.now rs (typed_new a.c.now))))

@@ -1,0 +1,26 @@
+-- The range first (`long`), then the refusals (`stopped`), then what is done (`passed`).
+use Rattle.paper.specs.Records.{records}
+use Rattle.paper.specs.Calls.{typed_new}
+use mathlib.Core.Path.{◌∙◌}
+use Rattle.paper.specs.Users.{unlock_key}
+use Rattle.method_users.proofs.Methods.{seen, method82, stopped, passed, long, ranged, fits}
+use Rattle.method_users.proofs.unlock_step.Goals as goal
+
+pub returns-then-store-gt-MOST_RECORDS : goal.returns-then-store-gt-MOST_RECORDS
+returns-then-store-gt-MOST_RECORDS c =
+    let a = c.args in
+    long (unlock_key a.c.now a.chip.now) a.store.now c.if-store-gt-MOST_RECORDS.true
+
+pub returns-then-n-ne-DONE : goal.returns-then-n-ne-DONE
+returns-then-n-ne-DONE c =
+    let a = c.args in
+    let rs = records a.store.now in
+    let s = seen a.c.now rs c.four_at-k.ensures c.target-x.ensures c.home.ensures in
+    ranged (unlock_key a.c.now a.chip.now) a.store.now c.if-store-gt-MOST_RECORDS.false (stopped (method82 a.c.now a.chip.now rs s) (c.unlock_status-n.ensures rs s ∙ rw (c.puk_of-puk.ensures, c.policy_of-pol.ensures)) c.if-n-ne-DONE.true)
+
+pub returns : goal.returns
+returns c =
+    let a = c.args in
+    let rs = records a.store.now in
+    let s = seen a.c.now rs c.four_at-k.ensures c.target-x.ensures c.home.ensures in
+    ranged (unlock_key a.c.now a.chip.now) a.store.now c.if-store-gt-MOST_RECORDS.false (passed (method82 a.c.now a.chip.now rs s) (c.unlock_status-n.ensures rs s ∙ rw (c.puk_of-puk.ensures, c.policy_of-pol.ensures)) c.if-n-ne-DONE.false (c.by_puk.ensures (typed_new a.c.now) rs ∙ rw (fits a.store.now c.if-store-gt-MOST_RECORDS.false, c.puk_of-puk.ensures, c.policy_of-pol.ensures, c.type_inv.ensures, c.four_at-k.ensures)))
