@@ -19,9 +19,9 @@ over-over k (x ∷ a) b s =
     rw e (over-over (suc k) a b (set s k x))
 
 -- a piece behind a text
-infixl 20 ◌and-then◌
-pub ◌and-then◌ : {a b s t u : List ℕ} {k m n : ℕ} → Wrote a k m s t → Wrote b m n t u → Wrote (a ++ b) k n s u
-◌and-then◌ {a} {b} {s} {t} {u} {k} v w =
+infixl 20 ◌and_then◌
+pub ◌and_then◌ : {a b s t u : List ℕ} {k m n : ℕ} → Wrote a k m s t → Wrote b m n t u → Wrote (a ++ b) k n s u
+◌and_then◌ {a} {b} {s} {t} {u} {k} v w =
     record {
       place = let e = length-append a b in omega (arith, v.place, w.place);
       bytes = rw (w.bytes, v.bytes, v.place) (over-over k a b s);
@@ -30,11 +30,6 @@ pub ◌and-then◌ : {a b s t u : List ℕ} {k m n : ℕ} → Wrote a k m s t �
 -- a piece that was made is the piece that was meant
 pub meant : {a b s t : List ℕ} {k n : ℕ} → Wrote a k n s t → a ≡ b → Wrote b k n s t
 meant w e = rw (← e) w
-
--- a copy that fills its place
-pub copied : (r x d : List ℕ) → d ≡ take (length r) r ++ x → length d ≡ length r → d ≡ r
-copied r [] d e l = e ∙ rw (take-length, append-nil)
-copied r (y ∷ ys) d e l = absurd (omega (arith, simp (take-length, length-append) at (ap length e)))
 
 -- a part that was lent comes back with the piece in it
 pub pasted : (k : ℕ) (v s d : List ℕ) → k + length v ≤ length s → d ≡ v → put_mid k ((k + length v) - k) s d ≡ over k v s

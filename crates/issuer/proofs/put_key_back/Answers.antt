@@ -1,4 +1,5 @@
 -- Piece by piece, behind the text that stands in front.
+use Rattle.issuer.proofs.Writing.{◌and_then◌}
 use Rattle.issuer.proofs.put_key_back.Goals as goal
 
 pub returns : goal.returns

@@ -1,4 +1,5 @@
 -- Piece by piece.
+use Rattle.issuer.proofs.Writing.{◌and_then◌}
 use Rattle.issuer.proofs.put_key_front.Goals as goal
 
 pub returns : goal.returns

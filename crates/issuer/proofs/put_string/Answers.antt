@@ -1,4 +1,5 @@
 -- The length, and then the bytes.
+use Rattle.issuer.proofs.Writing.{◌and_then◌}
 use Rattle.issuer.proofs.put_string.Goals as goal
 
 pub returns : goal.returns

@@ -12,13 +12,13 @@ use Rattle.issuer.proofs.sks_check_key.Goals as goal
 pub returns-then-not-is_ready : goal.returns-then-not-is_ready
 returns-then-not-is_ready c =
     let a = c.args in
-    unready a.key.now a.counter (key_attested_of a.id.now a.public_key_lem.now) a.attestation.now
+    unready a.key.now a.counter (key_attested_of a.id.now a.public_key.now) a.attestation.now
     (sym c.is_ready.ensures ∙ not-true _ c.if-not-is_ready.true-raw)
 
 pub returns-then-attestation-ne-MAC_BYTES : goal.returns-then-attestation-ne-MAC_BYTES
 returns-then-attestation-ne-MAC_BYTES c =
     let a = c.args in
-    of_other_length a.key.now a.counter (key_attested_of a.id.now a.public_key_lem.now) a.attestation.now c.if-attestation-ne-MAC_BYTES.true
+    of_other_length a.key.now a.counter (key_attested_of a.id.now a.public_key.now) a.attestation.now c.if-attestation-ne-MAC_BYTES.true
 
 pub key_of-k-requires : goal.key_of-k-requires
 key_of-k-requires c =
@@ -28,6 +28,6 @@ key_of-k-requires c =
 pub returns : goal.returns
 returns c =
     let a = c.args in
-    compared a.key.now a.counter (key_attested_of a.id.now a.public_key_lem.now) a.attestation.now
+    compared a.key.now a.counter (key_attested_of a.id.now a.public_key.now) a.attestation.now
     (sym c.is_ready.ensures ∙ not-false _ c.if-not-is_ready.false-raw) c.if-attestation-ne-MAC_BYTES.false
     (c.is_same.ensures ∙ rw (c.attested_key_under-made.ensures, c.key_of-k.ensures))

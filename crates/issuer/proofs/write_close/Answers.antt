@@ -1,6 +1,6 @@
 -- Piece by piece the call is written, and the last piece is its MAC.
 use Rattle.paper.specs.Issuing.{close_call}
-use Rattle.issuer.proofs.Writing.{meant}
+use Rattle.issuer.proofs.Writing.{◌and_then◌, meant}
 use Rattle.issuer.proofs.write_close.Goals as goal
 
 pub returns : goal.returns

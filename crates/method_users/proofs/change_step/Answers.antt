@@ -23,4 +23,4 @@ returns c =
     let a = c.args in
     let rs = records a.store.now in
     let s = seen a.c.now rs c.four_at-k.ensures c.target-x.ensures c.home.ensures in
-    ranged (change_pin a.c.now a.chip.now) a.store.now c.if-store-gt-MOST_RECORDS.false (passed (method83 a.c.now a.chip.now rs s) (c.change_status-n.ensures rs s ∙ rw c.policy_of-pol.ensures) c.if-n-ne-DONE.false (c.by_pin.ensures (typed_new a.c.now) rs ∙ rw (fits a.store.now c.if-store-gt-MOST_RECORDS.false, c.pinned.ensures, c.policy_of-pol.ensures, c.type_inv.ensures, all_repinned c.target-x.result.now rs (typed_new a.c.now))))
+    ranged (change_pin a.c.now a.chip.now) a.store.now c.if-store-gt-MOST_RECORDS.false (passed (method83 a.c.now a.chip.now rs s) (c.change_status-n.ensures rs s ∙ rw c.policy_of-pol.ensures) c.if-n-ne-DONE.false (c.by_pin.ensures (typed_new a.c.now) rs ∙ rw (fits a.store.now c.if-store-gt-MOST_RECORDS.false, c.pinned.ensures, c.policy_of-pol.ensures, c.typed.ensures, all_repinned c.target-x.result.now rs (typed_new a.c.now))))

@@ -32,7 +32,7 @@ returns-then-protection-eq-BY_PIN c =
     let a = c.args in
     let rs = records a.store.now in
     let s = seen a.c.now rs c.four_at-k.ensures c.target-x.ensures c.home.ensures in
-    ranged (delete_key a.c.now a.chip.now) a.store.now c.if-store-gt-MOST_RECORDS.false (passed (method80 a.c.now a.chip.now rs s) (c.delete_status-n.ensures rs s) c.if-n-ne-DONE.false (rw (← c.byte_at-protection.ensures, ne_eqb _ _ c.if-protection-eq0.false, eq-eqb _ _ c.if-protection-eq-BY_PIN.true) (c.by_pin.ensures (typed_new a.c.now) rs ∙ rw (fits a.store.now c.if-store-gt-MOST_RECORDS.false, c.policy_of-pol.ensures, c.type_inv.ensures, c.four_at-k.ensures))))
+    ranged (delete_key a.c.now a.chip.now) a.store.now c.if-store-gt-MOST_RECORDS.false (passed (method80 a.c.now a.chip.now rs s) (c.delete_status-n.ensures rs s) c.if-n-ne-DONE.false (rw (← c.byte_at-protection.ensures, ne_eqb _ _ c.if-protection-eq0.false, eq-eqb _ _ c.if-protection-eq-BY_PIN.true) (c.by_pin.ensures (typed_new a.c.now) rs ∙ rw (fits a.store.now c.if-store-gt-MOST_RECORDS.false, c.policy_of-pol.ensures, c.typed.ensures, c.four_at-k.ensures))))
 
 pub returns : goal.returns
 unfolding puk_hit

@@ -2,4 +2,4 @@
 use Rattle.method_users.proofs.is_given.Goals as goal
 
 pub returns : goal.returns
-returns c = rw (← c.type_inv.ensures)
+returns c = rw (← c.typed-v.ensures)

@@ -23,4 +23,4 @@ returns c =
     let a = c.args in
     let rs = records a.store.now in
     let s = seen a.c.now rs c.four_at-k.ensures c.target-x.ensures c.home.ensures in
-    ranged (unlock_key a.c.now a.chip.now) a.store.now c.if-store-gt-MOST_RECORDS.false (passed (method82 a.c.now a.chip.now rs s) (c.unlock_status-n.ensures rs s ∙ rw (c.puk_of-puk.ensures, c.policy_of-pol.ensures)) c.if-n-ne-DONE.false (c.by_puk.ensures (typed_new a.c.now) rs ∙ rw (fits a.store.now c.if-store-gt-MOST_RECORDS.false, c.puk_of-puk.ensures, c.policy_of-pol.ensures, c.type_inv.ensures, c.four_at-k.ensures)))
+    ranged (unlock_key a.c.now a.chip.now) a.store.now c.if-store-gt-MOST_RECORDS.false (passed (method82 a.c.now a.chip.now rs s) (c.unlock_status-n.ensures rs s ∙ rw (c.puk_of-puk.ensures, c.policy_of-pol.ensures)) c.if-n-ne-DONE.false (c.by_puk.ensures (typed_new a.c.now) rs ∙ rw (fits a.store.now c.if-store-gt-MOST_RECORDS.false, c.puk_of-puk.ensures, c.policy_of-pol.ensures, c.typed.ensures, c.four_at-k.ensures)))

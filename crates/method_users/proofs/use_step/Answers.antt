@@ -29,4 +29,4 @@ returns c =
     let a = c.args in
     let rs = records a.store.now in
     let s = seen a.c.now rs c.four_at-k.ensures c.target-x.ensures c.home.ensures in
-    passed (method100 a.c.now a.chip.now rs s) (c.use_status-n.ensures rs s ∙ rw c.policy_of-pol.ensures) c.if-n-ne-DONE.false (rw (ap (λ (n : ℕ). eqb n 0) (sym c.four_at.ensures) ∙ ne_eqb _ _ c.if-four_at-eq0.false) (c.by_pin.ensures (typed_new a.c.now) rs ∙ rw (c.policy_of-pol.ensures, c.type_inv.ensures, c.four_at-2.ensures, c.four_at-3.ensures)))
+    passed (method100 a.c.now a.chip.now rs s) (c.use_status-n.ensures rs s ∙ rw c.policy_of-pol.ensures) c.if-n-ne-DONE.false (rw (ap (λ (n : ℕ). eqb n 0) (sym c.four_at.ensures) ∙ ne_eqb _ _ c.if-four_at-eq0.false) (c.by_pin.ensures (typed_new a.c.now) rs ∙ rw (c.policy_of-pol.ensures, c.typed.ensures, c.four_at-2.ensures, c.four_at-3.ensures)))
