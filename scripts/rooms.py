@@ -19,7 +19,7 @@ NAMED = {
     "sha256": "hash", "hmac": "hash",
     "paper": "meaning", "laws": "meaning", "rule": "meaning", "worked": "meaning", "instances": "meaning",
     "issued": "meaning", "issued_worked": "meaning",
-    "token": "top", "issuer": "top", "story": "top", "lines": "top", "vectors": "top", "hash_c": "top",
+    "token": "top", "issuer": "top", "token_c": "top", "issuer_c": "top", "story": "top", "lines": "top", "vectors": "top", "hash_c": "top",
 }
 
 # room: the rooms it may stand on, besides itself
@@ -37,8 +37,8 @@ RULE = {
 # Of these rooms the others may stand on the crates named here alone: theorems and examples hold no code up.
 DOORS = {"meaning": ("paper", "laws")}
 
-# Supplied with the language: `bytes` copies slices and serves every room, the others are for programs.
-SUPPLIED = {"bytes": set(RULE), "check": {"top"}, "io": {"top"}, "os": {"top"}, "libc": {"top"}}
+# Supplied with the language, for programs.
+SUPPLIED = {"check": {"top"}, "io": {"top"}, "os": {"top"}, "libc": {"top"}}
 
 SAYS = {
     "hash": "SHA-256 and HMAC",
@@ -63,7 +63,7 @@ def read():
     stands = {}
     for line in CRATES.read_text().splitlines():
         if line.strip() and not line.startswith("#"):
-            crate, below = line.split(":")
+            crate, below = line.replace(" staticlib:", ":").split(":")
             stands[crate.strip()] = below.split()
     return stands
 

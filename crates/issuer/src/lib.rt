@@ -1,5 +1,5 @@
-// The issuer's half: the calls of methods 3, 8, 9, 10, 12, 50 and 51 written from an order, and the two attestations checked. For C, where a
-// slice is passed as a pointer, then a length. Each builder tests the range of its order, then the room in the buffer; then it makes the
+// The issuer's half: the calls of methods 3, 8, 9, 10, 12, 50 and 51 written from an order, and the two attestations checked;
+// `issuer_c` exports them for C. Each builder tests the range of its order, then the room in the buffer; then it makes the
 // MAC from the order's own slices and writes the call. No order is asked to be in range, and none reaches outside what is lent.
 
 #![tactic(auto)]
@@ -211,8 +211,7 @@ fn write_close(
     put(out, at, &m)
 }
 
-#[unsafe(no_mangle)]
-pub extern "C" fn sks_build_close<'a>(
+pub fn sks_build_close<'a>(
     session: u32,
     key: &'a [u8],
     counter: u16,
@@ -267,8 +266,7 @@ fn write_puk(
     put(out, at, &m)
 }
 
-#[unsafe(no_mangle)]
-pub extern "C" fn sks_build_puk<'a>(
+pub fn sks_build_puk<'a>(
     session: u32,
     key: &'a [u8],
     counter: u16,
@@ -327,8 +325,7 @@ fn write_policy(
     put(out, at, &m)
 }
 
-#[unsafe(no_mangle)]
-pub extern "C" fn sks_build_policy<'a>(
+pub fn sks_build_policy<'a>(
     session: u32,
     key: &'a [u8],
     counter: u16,
@@ -462,8 +459,7 @@ fn write_key(
     put(out, at, &m)
 }
 
-#[unsafe(no_mangle)]
-pub extern "C" fn sks_build_key<'a>(
+pub fn sks_build_key<'a>(
     session: u32,
     key: &'a [u8],
     counter: u16,
@@ -537,8 +533,7 @@ fn write_path(
     put(out, at, &m)
 }
 
-#[unsafe(no_mangle)]
-pub extern "C" fn sks_build_path<'a>(
+pub fn sks_build_path<'a>(
     session: u32,
     key: &'a [u8],
     counter: u16,
@@ -599,8 +594,7 @@ fn write_post(
     put(out, at, &m)
 }
 
-#[unsafe(no_mangle)]
-pub extern "C" fn sks_build_post<'a>(
+pub fn sks_build_post<'a>(
     session: u32,
     key: &'a [u8],
     counter: u16,
@@ -634,8 +628,7 @@ pub extern "C" fn sks_build_post<'a>(
 
 // ---- the two attestations, each checked with the counter of the call that it answers
 
-#[unsafe(no_mangle)]
-pub extern "C" fn sks_check_key<'a>(
+pub fn sks_check_key<'a>(
     key: &'a [u8],
     counter: u16,
     id: &'a [u8],
@@ -655,8 +648,7 @@ pub extern "C" fn sks_check_key<'a>(
     hmac::is_same(attestation, &made)
 }
 
-#[unsafe(no_mangle)]
-pub extern "C" fn sks_check_close<'a>(
+pub fn sks_check_close<'a>(
     key: &'a [u8],
     counter: u16,
     nonce: &'a [u8],

@@ -203,29 +203,20 @@ pub fn call<'a>(store: &mut [u8], call: &'a [u8], chip: &'a [u8], reply: &mut [u
     r.status
 }
 
-// For C, where a slice is passed as a pointer, then a length: whether the store is sound, for firmware that wants to know it without a
-// call, and the same two functions.
-#[unsafe(no_mangle)]
-pub extern "C" fn sks_sound(store: &[u8]) -> bool
+// What `token_c` exports for C: whether the store is sound, for firmware that wants to know it without a call, and the same two functions.
+pub fn sks_sound(store: &[u8]) -> bool
     ensures { result ≡ is_sound store.now }
 {
     sound_store::is_sound(store)
 }
 
-#[unsafe(no_mangle)]
-pub extern "C" fn sks_format(store: &mut [u8]) -> u8
+pub fn sks_format(store: &mut [u8]) -> u8
     ensures { made result store.new ≡ formatted store.old }
 {
     format(store)
 }
 
-#[unsafe(no_mangle)]
-pub extern "C" fn sks_call<'a>(
-    store: &mut [u8],
-    c: &'a [u8],
-    chip: &'a [u8],
-    reply: &mut [u8],
-) -> u8
+pub fn sks_call<'a>(store: &mut [u8], c: &'a [u8], chip: &'a [u8], reply: &mut [u8]) -> u8
     ensures { told result store.new reply.new ≡ answer store.old c.now chip.now reply.old }
 {
     call(store, c, chip, reply)
