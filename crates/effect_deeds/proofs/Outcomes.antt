@@ -10,7 +10,7 @@ use lib.Dec.{lit≤, lit<}
 use lib.ListN.{length}
 use Rattle.paper.specs.Limits.{longest_pin}
 use Rattle.paper.specs.Bytes.{padded_text}
-use Rattle.paper.specs.Form.{Rec, Form, ◌==◌, say, ◌and◌, some, test, Fact, only}
+use Rattle.paper.specs.Form.{Rec, Form, ◌equals◌, say, ◌and◌, some, test, Fact, only}
 use Rattle.paper.specs.Records.{records, kind, POLICY, KEY, PENDING, SESSION, is, at, own, session, parent, grouping, zeros, bears}
 use Rattle.paper.specs.Sound.{governs}
 use Rattle.paper.specs.Pin.{clear, the_key, pin_hit}
@@ -44,7 +44,7 @@ module _ (v : List ℕ) (rs : List Rec) (r : Rec) where
 
   pub close_done : (t : ℕ) → done v (close_fate t (fate (holds t 50 rs) (holds t 51 rs) rs r) rs r) r ≡ closing t rs r
   unfolding done close_fate closing sealed
-  close_done t = go (test (bears t r)) (test (kind r == PENDING)) (test (kind r == SESSION)) (test (has_key t rs)) (fate (holds t 50 rs) (holds t 51 rs) rs r) (effect (holds t 50 rs) (holds t 51 rs) rs r) (effect-done (holds t 50 rs) (holds t 51 rs))
+  close_done t = go (test (bears t r)) (test (kind r equals PENDING)) (test (kind r equals SESSION)) (test (has_key t rs)) (fate (holds t 50 rs) (holds t 51 rs) rs r) (effect (holds t 50 rs) (holds t 51 rs) rs r) (effect-done (holds t 50 rs) (holds t 51 rs))
     where
       go : (a b c e : Bool) (n : ℕ) (w : Rec) → done v n r ≡ w → done v (cond a (cond b 1 (cond c (cond e 5 1) 0)) n) r ≡ cond a (cond b zeros (cond c (cond e (shut r) zeros) r)) w
       go true true c e n w q = refl
@@ -77,7 +77,7 @@ clear-kind r = byte-over_other 2 0 (0 ∷ []) r (inr (lit< tt))
 
 module _ (g : Pinned) (v : List ℕ) (rs : List Rec) (r : Rec) where
   abbrev aimed : Rec → Form
-  aimed q = kind q == PENDING and some rs (given_as g (parent q))
+  aimed q = kind q equals PENDING and some rs (given_as g (parent q))
 
   -- who gets the PIN is a key
   given-kind : Fact (given g r) → kind r ≡ KEY
@@ -123,11 +123,11 @@ module _ (x : Rec) (rs : List Rec) where
   same-given r = same_test (given_pin x pol r) (given (pinned_by x pol) r) to from
     where
       to_child : (kind pol ≡ POLICY) × ((kind r ≡ KEY) × ((parent r ≡ own pol) × (session r ≡ session pol))) → grouping pol ≡ 1
-          → Fact (say (pinned_by x pol).shared and (kind r == KEY and parent r == parent x and session r == session x))
-      to_child (p, (k, (o, s))) g = let f = found p in ((both (kind pol == POLICY and grouping pol == 1)).1 (p, g), (k, (o ∙ f.1.0, s ∙ f.1.1)))
+          → Fact (say (pinned_by x pol).shared and (kind r equals KEY and parent r equals parent x and session r equals session x))
+      to_child (p, (k, (o, s))) g = let f = found p in ((both (kind pol equals POLICY and grouping pol equals 1)).1 (p, g), (k, (o ∙ f.1.0, s ∙ f.1.1)))
 
       from_child : (kind pol ≡ POLICY) × (grouping pol ≡ 1) → (kind r ≡ KEY) × ((parent r ≡ parent x) × (session r ≡ session x))
-          → Fact (grouping pol == 1 and governs pol r)
+          → Fact (grouping pol equals 1 and governs pol r)
       from_child (p, g) (k, (o, s)) = let f = found p in (g, (p, (k, (o ∙ sym f.1.0, s ∙ sym f.1.1))))
 
       to : Fact (given_pin x pol r) → Fact (given (pinned_by x pol) r)
@@ -136,7 +136,7 @@ module _ (x : Rec) (rs : List Rec) where
 
       from : Fact (given (pinned_by x pol) r) → Fact (given_pin x pol r)
       from (inl w) = inl w
-      from (inr w) = inr (from_child ((both (kind pol == POLICY and grouping pol == 1)).0 w.0) w.1)
+      from (inr w) = inr (from_child ((both (kind pol equals POLICY and grouping pol equals 1)).0 w.0) w.1)
 
   pub by_numbers : (v : List ℕ) (r : Rec) → changed x pol v rs r ≡ repinned (pinned_by x pol) v rs r
   unfolding changed repinned pin_hit only
@@ -146,7 +146,7 @@ module _ (x : Rec) (rs : List Rec) where
       keyed p = only (the_key x) (clear 2) (cond (p r) (new_pin v r) r)
 
       change : (Rec → Bool) → Rec
-      change p = only (λ q. kind q == PENDING and some rs (λ y. say (p y) and own y == parent q)) stale (keyed p)
+      change p = only (λ q. kind q equals PENDING and some rs (λ y. say (p y) and own y equals parent q)) stale (keyed p)
 
 -- whatever is done
 pub deed_done : (v : List ℕ) (d : Deed) (rs : List Rec) (r : Rec) → done v (deed_fate d rs r) r ≡ outcome v d rs r

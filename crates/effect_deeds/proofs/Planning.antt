@@ -9,7 +9,7 @@ use borrow.Author.Tests.{le-leb, lt-leb}
 use lib.ListN.{length, get_or, set, length-set}
 use lib.Seq.{get_or-set_same, get_or-set_other}
 use Rattle.paper.specs.Bytes.{byte}
-use Rattle.paper.specs.Form.{Rec, ◌==◌, some, test}
+use Rattle.paper.specs.Form.{Rec, ◌equals◌, some, test}
 use Rattle.paper.specs.Records.{records, own}
 use Rattle.paper.specs.Closing.{Keys as Set, holds}
 use Rattle.paper.proofs.Forms.{both, cases}
@@ -45,7 +45,7 @@ module _ {t : ℕ} {rs : List Rec} {p : List ℕ} {i : ℕ} (inv : Shutting t rs
   shut-step n m r h l en er em =
       record {
         long = rw length-set inv.long;
-        written = λ j k. cases (j == i) (λ q. rw q (get_or-set_same p i m 0 (omega (arith, inv.long)) ∙ em ∙ rw (er, en, inv.left i (omega arith) l))) (λ q. get_or-set_other p i j m 0 q ∙ inv.written j (omega arith));
+        written = λ j k. cases (j equals i) (λ q. rw q (get_or-set_same p i m 0 (omega (arith, inv.long)) ∙ em ∙ rw (er, en, inv.left i (omega arith) l))) (λ q. get_or-set_other p i j m 0 q ∙ inv.written j (omega arith));
         left = λ j k n'. get_or-set_other p i j m 0 (λ q. omega arith) ∙ inv.left j (omega arith) n';
       }
 
@@ -60,8 +60,8 @@ pub record Spanned (g : Pinned) (rs : List Rec) (s : Span) (i : ℕ) : Type 0 wh
 pub span_next : {g : Pinned} {rs : List Rec} {s t : Span} {i : ℕ} (r : Rec) → Spanned g rs s i → r ≡ get_or rs i [] → Widened g r s t → Spanned g rs t (i + 1)
 span_next {rs = rs} {s = s} {t = t} {i = i} r inv e w =
     record {
-      from = λ j l q. cases (j == i) (λ p. rw (p, ← e) (w.from (rw (e, ← p) q))) (λ p. let k = inv.from j (omega arith) q in let m = w.down in omega arith);
-      to = λ j l q. cases (j == i) (λ p. rw (p, ← e) (w.to (rw (e, ← p) q))) (λ p. let k = inv.to j (omega arith) q in let m = w.up in omega arith);
+      from = λ j l q. cases (j equals i) (λ p. rw (p, ← e) (w.from (rw (e, ← p) q))) (λ p. let k = inv.from j (omega arith) q in let m = w.down in omega arith);
+      to = λ j l q. cases (j equals i) (λ p. rw (p, ← e) (w.to (rw (e, ← p) q))) (λ p. let k = inv.to j (omega arith) q in let m = w.up in omega arith);
     }
 
 -- no key outside of it gets the PIN

@@ -1,7 +1,7 @@
 -- What becomes of every record at once, and the number for each that says so.
 use Rattle.std.specs.Prelude.{true, cond, ◌≡◌, List, [], ℕ, ◌≤◌, ◌<◌, leb, length, get_or}
 use Rattle.paper.specs.Limits.{most_records}
-use Rattle.paper.specs.Form.{Rec, Form, ◌==◌, say, ◌and◌, ◌or◌, some, test, only}
+use Rattle.paper.specs.Form.{Rec, Form, ◌equals◌, say, ◌and◌, ◌or◌, some, test, only}
 use Rattle.paper.specs.Records.{kind, SESSION, POLICY, KEY, PENDING, is, own, session, parent, grouping, bears}
 use Rattle.paper.specs.Pin.{clear}
 use Rattle.paper.specs.Closing.{holds, has_key, effect, closing, stale}
@@ -18,25 +18,25 @@ use Rattle.effect_deeds.specs.declared.Deed.TheVariants.{Effect, Close, Change}
 unfoldable pub close_fate : ℕ → ℕ → List Rec → Rec → ℕ
 close_fate t n rs r =
     cond (test (bears t r))
-    (cond (test (kind r == PENDING)) FREED (cond (test (kind r == SESSION)) (cond (test (has_key t rs)) SHUT FREED) STAYS)) n
+    (cond (test (kind r equals PENDING)) FREED (cond (test (kind r equals SESSION)) (cond (test (has_key t rs)) SHUT FREED) STAYS)) n
 
 -- The paper's change of a PIN by the numbers of the key and its policy: who gets it, and what becomes of every record.
 abbrev pub pinned_by : Rec → Rec → Pinned
-pinned_by x pol = record { key = own x; home = session x; policy = parent x; shared = test (kind pol == POLICY and grouping pol == 1) }
+pinned_by x pol = record { key = own x; home = session x; policy = parent x; shared = test (kind pol equals POLICY and grouping pol equals 1) }
 
 abbrev pub itself : Pinned → Rec → Form
 itself g r = is KEY g.key g.home r
 
 abbrev pub given : Pinned → Rec → Form
-given g r = itself g r or (say g.shared and (kind r == KEY and parent r == g.policy and session r == g.home))
+given g r = itself g r or (say g.shared and (kind r equals KEY and parent r equals g.policy and session r equals g.home))
 
 -- A key of this handle that gets it.
 abbrev pub given_as : Pinned → ℕ → Rec → Form
-given_as g k y = given g y and own y == k
+given_as g k y = given g y and own y equals k
 
 unfoldable pub repinned : Pinned → List ℕ → List Rec → Rec → Rec
 repinned g v rs r =
-    only (λ q. kind q == PENDING and some rs (given_as g (parent q))) stale (only (itself g) (clear 2) (only (given g) (new_pin v) r))
+    only (λ q. kind q equals PENDING and some rs (given_as g (parent q))) stale (only (itself g) (clear 2) (only (given g) (new_pin v) r))
 
 -- A span of handles, and the same wide enough for one record more.
 pub record Widened (g : Pinned) (r : Rec) (s t : Span) : Type 0 where
@@ -53,7 +53,7 @@ pub record Spans (g : Pinned) (rs : List Rec) (s : Span) : Type 0 where
 unfoldable pub pin_fate : Pinned → List Rec → Rec → ℕ
 pin_fate g rs r =
     cond (test (given g r)) (cond (test (itself g r)) NEW_PIN_CLEARED NEW_PIN)
-    (cond (test (kind r == PENDING and some rs (given_as g (parent r)))) MADE_STALE STAYS)
+    (cond (test (kind r equals PENDING and some rs (given_as g (parent r)))) MADE_STALE STAYS)
 
 abbrev pub deed_fate : Deed → List Rec → Rec → ℕ
 deed_fate (Effect ds us) rs = fate (keys_of ds rs) (keys_of us rs) rs

@@ -10,7 +10,7 @@ use lib.Seq.{get_or-set_same, get_or-set_other, take_all, take_at}
 use Rattle.sha256.proofs.Standing.{drop-zeros}
 use Rattle.hmac.proofs.Bytes.{copy_more}
 use Rattle.paper.specs.Bytes.{byte, zeros_of}
-use Rattle.paper.specs.Form.{Rec, ◌==◌, ◌=<◌}
+use Rattle.paper.specs.Form.{Rec, ◌equals◌, ◌=<◌}
 use Rattle.paper.specs.Records.{records}
 use Rattle.paper.proofs.Forms.{cases}
 use Rattle.store_records.proofs.Views.{length-records}
@@ -37,7 +37,7 @@ module _ {f : Rec → ℕ} {rs : List Rec} {p : List ℕ} {i : ℕ} (inv : Plann
   planned_step n h e =
       record {
         long = rw length-set inv.long;
-        at = λ j l. cases (j == i) (λ q. rw q (get_or-set_same p i n 0 (omega (arith, inv.long)) ∙ e)) (λ q. get_or-set_other p i j n 0 q ∙ inv.at j (omega arith));
+        at = λ j l. cases (j equals i) (λ q. rw q (get_or-set_same p i n 0 (omega (arith, inv.long)) ∙ e)) (λ q. get_or-set_other p i j n 0 q ∙ inv.at j (omega arith));
       }
 
   pub planned_done : length rs ≤ i → Plan f rs p

@@ -7,7 +7,7 @@ use Prim.Native.Nat.{ℕ, zero, suc, ◌+◌, ◌/◌, ◌≤◌, ◌<◌}
 use borrow.Author.Tests.{ne_eqb}
 use lib.Dec.{eqb}
 use lib.ListN.{length, get_or, drop}
-use Rattle.paper.specs.Form.{Rec, ◌==◌, test, some, exists}
+use Rattle.paper.specs.Form.{Rec, ◌equals◌, test, some, exists}
 use Rattle.paper.specs.Records.{records, kind, PENDING, session, is_stale, parent, operation}
 use Rattle.paper.specs.Closing.{one, holds}
 use Rattle.paper.proofs.Forms.{cases}
@@ -16,7 +16,7 @@ use Rattle.effect_plan.specs.declared.Keys.{Keys}
 use Rattle.effect_plan.specs.Sets.{keys_of, holding, pending_of, Joined}
 
 eqb_flip : (a b : ℕ) → eqb a b ≡ eqb b a
-eqb_flip a b = cases (a == b) (λ e. rw e) (λ n. ne_eqb a b n ∙ sym (ne_eqb b a (λ e. n (sym e))))
+eqb_flip a b = cases (a equals b) (λ e. rw e) (λ n. ne_eqb a b n ∙ sym (ne_eqb b a (λ e. n (sym e))))
 
 -- a pending of the session and the operation holds the key that it is on
 pub holding-is : (s op k : ℕ) (q : Rec) → test (holding s op k q) ≡ (test (pending_of s op q) && one (parent q) k)

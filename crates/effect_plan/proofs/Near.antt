@@ -8,7 +8,7 @@ use borrow.Author.Tests.{eqb-true, eq-eqb, ne_eqb}
 use lib.Dec.{eqb}
 use lib.ListN.{length, get_or}
 use Rattle.paper.specs.Bytes.{byte}
-use Rattle.paper.specs.Form.{Rec, Form, ◌==◌, ◌and◌, test, exists}
+use Rattle.paper.specs.Form.{Rec, Form, ◌equals◌, ◌and◌, test, exists}
 use Rattle.paper.specs.Records.{records, kind, own, session, parent, state, SESSION, CLOSED, PUK, POLICY, KEY, PENDING}
 use Rattle.paper.specs.Closing.{Keys as Set, key_goes, policy_goes, puk_goes, session_goes, key_unlocked, puk_unlocked}
 use Rattle.paper.proofs.Forms.{both, cases, contrary}
@@ -53,7 +53,7 @@ module _ (d : Set) (x : Rec) where
 pub marked_key : {d : Set} {rs : List Rec} {m : List ℕ} → Marked d rs m → (j : ℕ) → j < length rs
     → (eqb (byte j m) 1 && eqb (kind (get_or rs j [])) KEY) ≡ test (key_goes d rs (get_or rs j []))
 unfolding mark
-marked_key {d} {rs} {m} w j l = rw (w.at j l, mark-is) (cases (kind (get_or rs j []) == KEY) (λ e. rw e (go (d (own (get_or rs j []))))) (λ n. rw (ne_eqb (kind (get_or rs j [])) KEY n, and-false)))
+marked_key {d} {rs} {m} w j l = rw (w.at j l, mark-is) (cases (kind (get_or rs j []) equals KEY) (λ e. rw e (go (d (own (get_or rs j []))))) (λ n. rw (ne_eqb (kind (get_or rs j [])) KEY n, and-false)))
   where
     go : (a : Bool) → ((a || false) && true) ≡ a
     go true = refl
@@ -111,7 +111,7 @@ HomesTo t m hs i = (d : Set) → Marked d (records t) m → (j : ℕ) → j < i 
 
 pub home_next : (t m : List ℕ) (hs gs : Homes) (i : ℕ) → HomesTo t m hs i
     → Extended (eqb (byte i m) 1 && eqb (kind (get_or (records t) i [])) KEY) (session (get_or (records t) i [])) (homes_of hs) (homes_of gs) → HomesTo t m gs (i + 1)
-home_next t m hs gs i inv w = λ d k j l n q. cases (j == i) (λ f. rw f (w.added (marked_key k i (rw f at n) ∙ rw f at q))) (λ f. w.kept _ (inv d k j (omega arith) n q))
+home_next t m hs gs i inv w = λ d k j l n q. cases (j equals i) (λ f. rw f (w.added (marked_key k i (rw f at n) ∙ rw f at q))) (λ f. w.kept _ (inv d k j (omega arith) n q))
 
 pub homes_done : (t m : List ℕ) (hs : Homes) (i : ℕ) → HomesTo t m hs i → length t / 256 ≤ i → AllHome (records t) m hs
 homes_done t m hs i inv h = λ d k. record { at = λ j l q. inv d k j (omega (arith, length-records t)) l q }
@@ -142,26 +142,26 @@ module _ {d : Set} {rs : List Rec} {h : Set} (w : AtHome d rs h) (s : ℕ) (e : 
           right false b q = cc
 
   far_policy : (r : Rec) → session r ≡ s → test (policy_goes d rs r) ≡ false
-  far_policy r q = let φ : Rec → Form = λ x. kind x == KEY and parent x == own r and session x == session r in rw (no_key φ (λ x t. ((both (φ x)).0 t).1.1 ∙ q)) (and-false (eqb (kind r) POLICY))
+  far_policy r q = let φ : Rec → Form = λ x. kind x equals KEY and parent x equals own r and session x equals session r in rw (no_key φ (λ x t. ((both (φ x)).0 t).1.1 ∙ q)) (and-false (eqb (kind r) POLICY))
 
   far_session : (r : Rec) → own r ≡ s → test (session_goes d rs r) ≡ false
-  far_session r q = let φ : Rec → Form = λ x. kind x == KEY and session x == own r in rw (no_key φ (λ x t. ((both (φ x)).0 t).1 ∙ q), and-false (eqb (state r) CLOSED)) (and-false (eqb (kind r) SESSION))
+  far_session r q = let φ : Rec → Form = λ x. kind x equals KEY and session x equals own r in rw (no_key φ (λ x t. ((both (φ x)).0 t).1 ∙ q), and-false (eqb (state r) CLOSED)) (and-false (eqb (kind r) SESSION))
 
   far_puk : (r : Rec) → session r ≡ s → test (puk_goes d rs r) ≡ false
   far_puk r q = rw (exists_false (λ x. test (φ x) && test (policy_goes d rs x)) (λ x. go x (test (φ x)) refl) rs) (and-false (eqb (kind r) PUK))
     where
       φ : Rec → Form
-      φ x = kind x == POLICY and parent x == own r and session x == session r
+      φ x = kind x equals POLICY and parent x equals own r and session x equals session r
 
       go : (x : Rec) (b : Bool) → test (φ x) ≡ b → (b && test (policy_goes d rs x)) ≡ false
       go x true t = far_policy x (((both (φ x)).0 t).1.1 ∙ q)
       go x false t = refl
 
   pub far_unlocked : (r : Rec) → session r ≡ s → test (puk_unlocked d rs r) ≡ false
-  far_unlocked r q = puk_unlocked_lem d rs r ∙ rw (exists_false (λ p. test (policy_so d rs (own r) (session r) Unlocked p)) (λ p. rw (no_key (under (Policy (own p) (session r))) (λ x t. ((both (under (Policy (own p) (session r)) x)).0 t).1.1 ∙ q)) (and-false (test (kind p == POLICY and parent p == own r and session p == session r)))) rs) (and-false (eqb (kind r) PUK))
+  far_unlocked r q = puk_unlocked_lem d rs r ∙ rw (exists_false (λ p. test (policy_so d rs (own r) (session r) Unlocked p)) (λ p. rw (no_key (under (Policy (own p) (session r))) (λ x t. ((both (under (Policy (own p) (session r)) x)).0 t).1.1 ∙ q)) (and-false (test (kind p equals POLICY and parent p equals own r and session p equals session r)))) rs) (and-false (eqb (kind r) PUK))
 
 pub far_parent : {d : Set} {rs : List Rec} {h : Set} → AtHome d rs h → (r : Rec) → h (home_of r) ≡ false → test (parent_goes d rs r) ≡ false
-far_parent {d} {rs} {h} w r e = cases (kind r == SESSION) is-session no_session
+far_parent {d} {rs} {h} w r e = cases (kind r equals SESSION) is-session no_session
   where
     no_policy : kind r ≡ SESSION → test (policy_goes d rs r) ≡ false
     no_policy k = rw k

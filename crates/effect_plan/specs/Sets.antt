@@ -1,7 +1,7 @@
 -- Sets of keys by what makes them up, and the children whose going takes a record along.
 use Rattle.std.specs.Prelude.{Bool, true, false, cond, ◌||◌, ◌≡◌, ◌⊎◌, List, [], ℕ, ◌<◌, length, get_or}
 use Rattle.paper.specs.Bytes.{byte}
-use Rattle.paper.specs.Form.{Rec, Form, ◌==◌, no, ◌and◌, ◌or◌, some, test}
+use Rattle.paper.specs.Form.{Rec, Form, ◌equals◌, no, ◌and◌, ◌or◌, some, test}
 use Rattle.paper.specs.Records.{kind, SESSION, POLICY, KEY, own, session, parent, operation}
 use Rattle.paper.specs.Closing.{Keys as Set, no_keys, one, held, holds, is_pending, key_goes, policy_goes, puk_goes, session_goes, key_unlocked, pending_on}
 use Rattle.effect_plan.specs.Fate.{fate, plan_of}
@@ -24,11 +24,11 @@ keys_of (Held s op) rs = holds s op rs
 
 -- A session's unstale pending of an operation on a key.
 abbrev pub holding : ℕ → ℕ → ℕ → Rec → Form
-holding s op k q = held s k q and operation q == op
+holding s op k q = held s k q and operation q equals op
 
 -- The same on whatever key.
 abbrev pub pending_of : ℕ → ℕ → Rec → Form
-pending_of s op q = is_pending s q and operation q == op
+pending_of s op q = is_pending s q and operation q equals op
 
 -- A set became this one: it has the keys of p besides, or it is that of all keys held.
 abbrev pub Joined : ℕ → ℕ → Set → Keys → Keys → Type 0
@@ -66,12 +66,12 @@ pub record AtHome (d : Set) (rs : List Rec) (h : Set) : Type 0 where
 
 -- The session that the keys under a record bear.
 abbrev pub home_of : Rec → ℕ
-home_of r = cond (test (kind r == SESSION)) (own r) (session r)
+home_of r = cond (test (kind r equals SESSION)) (own r) (session r)
 
 -- A policy's keys, and a session's.
 abbrev pub under : Under → Rec → Form
-under (Policy p s) x = kind x == KEY and parent x == p and session x == s
-under (Session s) x = kind x == KEY and session x == s
+under (Policy p s) x = kind x equals KEY and parent x equals p and session x equals s
+under (Session s) x = kind x equals KEY and session x equals s
 
 -- A statement, or that it fails.
 abbrev pub turned : Bool → Form → Form
@@ -91,7 +91,7 @@ module _ (d : Set) (rs : List Rec) where
 
   -- Such a policy under that PUK.
   abbrev pub policy_so : ℕ → ℕ → Lot → Rec → Form
-  policy_so o s l p = (kind p == POLICY and parent p == o and session p == s) and lot_of s l p
+  policy_so o s l p = (kind p equals POLICY and parent p equals o and session p equals s) and lot_of s l p
 
   -- A record that is no key, and goes.
   abbrev pub parent_goes : Rec → Form

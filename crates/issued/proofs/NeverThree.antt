@@ -10,7 +10,7 @@ use lib.Dec.{eqb}
 use borrow.Author.Tests.{eq-eqb}
 use Rattle.hmac.proofs.Sameness.{eq_same}
 use Rattle.paper.specs.Bytes.{ascii}
-use Rattle.paper.specs.Form.{Rec, ◌==◌, say, ◌or◌, test, Fact, Fault, settle}
+use Rattle.paper.specs.Form.{Rec, ◌equals◌, say, ◌or◌, test, Fact, Fault, settle}
 use Rattle.paper.specs.Records.{records, SESSION, PUK, POLICY, KEY, at, id, client_id, session_key, mac_counter, user_defined, public_key, SessionValue}
 use Rattle.paper.specs.Calls.{subject, one_of, session_methods, is_session_call, close_in, puk_in, Policy, policy_in, Key, key_in, Path, path_in, post_in}
 use Rattle.paper.specs.Mac.{mac_under, mac, name_or, close_data_of, close_data, puk_data, policy_data_of, policy_data, key_data_of, key_data, path_data_of, path_data, post_name, post_data}
@@ -70,14 +70,14 @@ module _ (i : Issuer) (s c : List ℕ) (S : Stands i s) (e : subject c ≡ i.ses
 
 -- what a handle stands for, where the names agree for a handle that is not 0
 name_same : (handle : ℕ) (a b : List ℕ) → ((handle ≡ 0 → ⊥) → a ≡ b) → name_or handle a ≡ name_or handle b
-name_same handle a b f = cases (handle == 0) (λ e. rw (eq-eqb handle 0 e)) (λ n. ap (name_or handle) (f n))
+name_same handle a b f = cases (handle equals 0) (λ e. rw (eq-eqb handle 0 e)) (λ n. ap (name_or handle) (f n))
 
 -- who sets the PIN, by the order and by the policy
 sets_same : (o : KeyOrder) (defined : ℕ) → Fact (pin_ordered o) → ((o.policy ≡ 0 → ⊥) → defined ≡ cond (eqb o.pin_kind user_pin) 1 0)
     → eqb o.pin_kind issuer_pin ≡ cond (eqb o.policy 0) false (eqb defined 0)
 sets_same o defined (inl w) f = rw (w.0, w.1)
-sets_same o defined (inr (n, (inl k, w))) f = rw (fails (o.policy == 0) n, f n, k)
-sets_same o defined (inr (n, (inr k, w))) f = rw (fails (o.policy == 0) n, f n, k)
+sets_same o defined (inr (n, (inl k, w))) f = rw (fails (o.policy equals 0) n, f n, k)
+sets_same o defined (inr (n, (inr k, w))) f = rw (fails (o.policy equals 0) n, f n, k)
 
 -- ---- method by method
 

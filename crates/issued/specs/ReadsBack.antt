@@ -3,7 +3,7 @@
 use Rattle.std.specs.Prelude.{◌≡◌, List, ℕ, length}
 use Rattle.paper.specs.Limits.{longest_pin, longest_public_key}
 use Rattle.paper.specs.Bytes.{byte, behind}
-use Rattle.paper.specs.Form.{Form, ◌==◌, ◌=<◌, ◌and◌, Fact}
+use Rattle.paper.specs.Form.{Form, ◌equals◌, ◌=<◌, ◌and◌, Fact}
 use Rattle.paper.specs.Calls.{method as method_of, subject, known as known_call, flag_at, length_at, no_chip, close_in, close_form, puk_in, puk_form, policy_in, policy_form, key_in, key_form, path_in, path_form, post_in, post_form}
 use Rattle.paper.specs.Issuing.{Issuer, CloseOrder, close_as, close_mac, close_call, PukOrder, puk_as, puk_mac, puk_call, PolicyOrder, policy_as, policy_mac, policy_call, KeyOrder, key_as, key_mac, key_call, PathOrder, path_as, path_mac, path_call, PostOrder, post_as, post_mac, post_call}
 use Rattle.issued.specs.Meant.{close_meant, puk_meant, policy_meant, key_meant, path_meant, post_meant}
@@ -24,10 +24,10 @@ puk_chip chip = 1 =< length chip and length chip =< longest_pin
 abbrev pub key_chip : List ℕ → Form
 key_chip chip =
     length_at 1 longest_public_key 0 chip and length_at 0 longest_pin (behind 0 chip) chip
-    and behind (behind 0 chip) chip == length chip
+    and behind (behind 0 chip) chip equals length chip
 
 abbrev pub post_chip : List ℕ → Form
-post_chip chip = length chip == 1 and flag_at 0 chip
+post_chip chip = length chip equals 1 and flag_at 0 chip
 
 abbrev pub CloseReads : Issuer → CloseOrder → List ℕ → Type 0
 CloseReads i o chip =

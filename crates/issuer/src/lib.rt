@@ -6,7 +6,7 @@
 
 ghost use Rattle.std.specs.Prelude.{◌≡◌, List, [], ◌∷◌, ◌++◌, ℕ, ◌+◌, ◌≤◌, length};
 ghost use Rattle.paper.specs.Bytes.{enc2, enc4, string};
-ghost use Rattle.paper.specs.Form.{test, ◌==◌, ◌=<◌, ◌and◌};
+ghost use Rattle.paper.specs.Form.{test, ◌equals◌, ◌=<◌, ◌and◌};
 ghost use Rattle.paper.specs.Issuing.{has_length, is_id, close_ordered, close_call, puk_ordered, puk_call, policy_ordered, policy_call, key_ordered, key_call, pin_ordered, path_ordered, certificates_ordered, path_call, post_ordered, post_call, key_attests, close_attests};
 ghost use Rattle.issuer.specs.Told.{told, Says, Wrote, issuer_of, close_of, puk_of, policy_of, key_of, path_of, post_of, close_issued, puk_issued, policy_issued, key_issued, path_issued, post_issued};
 
@@ -32,7 +32,7 @@ const KEY_FIXED: usize = 62;
 
 // A SessionKey of 32 bytes, and a counter with room for so many uses.
 fn is_ready(key: &[u8], counter: u16, uses: u8) -> bool
-    ensures { result ≡ test (length key.now == 32 and counter + uses =< 65535) }
+    ensures { result ≡ test (length key.now equals 32 and counter + uses =< 65535) }
 {
     (key.len() == SESSION_KEY_BYTES) & ((counter as usize) + (uses as usize) <= LAST_COUNT)
 }

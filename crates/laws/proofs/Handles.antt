@@ -11,7 +11,7 @@ use lib.ListN.{length}
 use lib.Dec.{leb}
 use borrow.Author.Tests.{leb-true, ne_eqb}
 use Rattle.paper.specs.Bytes.{byte, four, part}
-use Rattle.paper.specs.Form.{Rec, ◌==◌, ◌=<◌, Fact, some}
+use Rattle.paper.specs.Form.{Rec, ◌equals◌, ◌=<◌, Fact, some}
 use Rattle.paper.specs.Records.{kind, zeros, FREE, SESSION, PUK, POLICY, KEY, PENDING, COUNTER, own, session, session_of, is, at}
 use Rattle.paper.specs.Table.{Field, is_blank, fields_of, obeys_table}
 use Rattle.paper.specs.Sound.{is_object, has_handle}
@@ -42,7 +42,7 @@ module _ (rs : List Rec) (F : Facts rs) where
 
   -- the counter is there
   pub counter_there : Memᴰ (counter rs) rs × (kind (counter rs) ≡ COUNTER)
-  counter_there = sought (λ r. kind r == COUNTER) rs F.counter
+  counter_there = sought (λ r. kind r equals COUNTER) rs F.counter
 
   -- an object's handle tells its session, which is not 0
   pub carries : (x : Rec) → Memᴰ x rs → Fact (is_object x) → (session_of (own x) ≡ session x) × (1 ≤ session x)

@@ -5,7 +5,7 @@ use mathlib.Core.List.{List, Memᴰ}
 use mathlib.Core.Logic.{◌⊎◌, inl, inr}
 use Prim.Native.Nat.{ℕ, ◌≤◌}
 use native.Mathlib.Omega.{arith}
-use Rattle.paper.specs.Form.{Rec, Form, ◌==◌, no, ◌and◌, ◌or◌, some, test, Fact}
+use Rattle.paper.specs.Form.{Rec, Form, ◌equals◌, no, ◌and◌, ◌or◌, some, test, Fact}
 use Rattle.paper.specs.Records.{kind, SESSION, PUK, POLICY, KEY, CLOSED, own, session, parent, state, zeros}
 use Rattle.paper.specs.Pin.{clear}
 use Rattle.paper.specs.Closing.{Keys, lost, key_goes, policy_goes, puk_goes, session_goes, goes, key_unlocked, puk_unlocked, stale, pending_on, effect}
@@ -22,13 +22,13 @@ module _ (rs : List Rec) (such gone : Rec → Form) where
 
 -- those that are lost, by name
 abbrev pub keys_under : Rec → Rec → Form
-keys_under p x = kind x == KEY and parent x == own p and session x == session p
+keys_under p x = kind x equals KEY and parent x equals own p and session x equals session p
 
 abbrev pub policies_under : Rec → Rec → Form
-policies_under p x = kind x == POLICY and parent x == own p and session x == session p
+policies_under p x = kind x equals POLICY and parent x equals own p and session x equals session p
 
 abbrev pub keys_in : Rec → Rec → Form
-keys_in p x = kind x == KEY and session x == own p
+keys_in p x = kind x equals KEY and session x equals own p
 
 -- who goes, by name
 pub data Going (d : Keys) (rs : List Rec) (x : Rec) : Type 0 where

@@ -10,7 +10,7 @@ use Prim.Native.String.{String}
 use lib.Dec.{leb, lit≤}
 use borrow.Author.Tests.{leb-true}
 use Rattle.sha256.specs.Sha256.{SHA256}
-use Rattle.paper.specs.Form.{Rec, ◌==◌, test, Fact, only, Fault, ◌gives◌, settle}
+use Rattle.paper.specs.Form.{Rec, ◌equals◌, test, Fact, only, Fault, ◌gives◌, settle}
 use Rattle.paper.specs.Records.{SessionValue, PUK, POLICY, KEY, at, is, parent, delete_protection, retry_limit, key_errors, puk_errors, zeros}
 use Rattle.paper.specs.Calls.{method, subject, one_of, session_methods, is_session_call, close_in, Puk, puk_in, Policy, policy_in, Key, key_in, Path, path_in, Post, post_in, typed, typed_new}
 use Rattle.paper.specs.Mac.{attestation, close_attested, key_attested}
@@ -121,13 +121,13 @@ module _ (c chip : List ℕ) (blk : List Rec) (l : Look) where
   pub by_act : (P : Act → Type 0) → ByAct P → P (session_act c chip blk l)
   unfolding session_act close_by abort_session make_puk_by make_policy_by make_key_by set_path_by post_by
   by_act P w =
-      choose P (method c == 3) (close_session c chip blk) _ (λ e. list (close_faults c chip (close_in c) x blk) _ refl (w.close e)) (λ n3.
-      choose P (method c == 5) (abort_session c chip) _ (λ e. list (abort_faults c chip) _ refl (λ g. w.abort e)) (λ n5.
-      choose P (method c == 8) (make_puk c chip blk) _ (λ e. list (puk_faults c chip p p.value x blk) _ refl (w.puk e)) (λ n8.
-      choose P (method c == 9) (make_policy c chip blk) _ (λ e. list (policy_faults c chip q u x blk) _ refl (w.policy e)) (λ n9.
-      choose P (method c == 10) (make_key c chip blk) _ (λ e. list (key_faults c chip k (pin_of k pol) pol x blk) _ refl (w.key e)) (λ n10.
-      choose P (method c == 12) (set_path c chip blk) _ (λ e. list (path_faults c chip z (at KEY z.key t blk) x) _ refl (w.path e)) (λ n12.
-      choose P (method c == 50) (post_delete c chip blk l) (post_unlock c chip blk l)
+      choose P (method c equals 3) (close_session c chip blk) _ (λ e. list (close_faults c chip (close_in c) x blk) _ refl (w.close e)) (λ n3.
+      choose P (method c equals 5) (abort_session c chip) _ (λ e. list (abort_faults c chip) _ refl (λ g. w.abort e)) (λ n5.
+      choose P (method c equals 8) (make_puk c chip blk) _ (λ e. list (puk_faults c chip p p.value x blk) _ refl (w.puk e)) (λ n8.
+      choose P (method c equals 9) (make_policy c chip blk) _ (λ e. list (policy_faults c chip q u x blk) _ refl (w.policy e)) (λ n9.
+      choose P (method c equals 10) (make_key c chip blk) _ (λ e. list (key_faults c chip k (pin_of k pol) pol x blk) _ refl (w.key e)) (λ n10.
+      choose P (method c equals 12) (set_path c chip blk) _ (λ e. list (path_faults c chip z (at KEY z.key t blk) x) _ refl (w.path e)) (λ n12.
+      choose P (method c equals 50) (post_delete c chip blk l) (post_unlock c chip blk l)
       (λ e. list (post_faults 50 "postDeleteKey" c chip d x blk l) _ refl (w.post 50 "postDeleteKey" (lit≤ tt) (lit≤ tt) (λ h. e)))
       (λ n50. list (post_faults 51 "postUnlockKey" c chip d x blk l) _ refl (w.post 51 "postUnlockKey" (lit≤ tt) (lit≤ tt)
       (by_method c
@@ -204,18 +204,18 @@ module _ (c chip : List ℕ) (rs : List Rec) where
   pub by_user : (P : Out → Type 0) → ByUser P → P (user_step c chip rs)
   unfolding user_step delete_key unlock_key change_pin use_key
   by_user P w =
-      choose P (method c == 80) (delete_key c chip rs) _ (λ e.
+      choose P (method c equals 80) (delete_key c chip rs) _ (λ e.
       settled P (delete_faults c chip key rs) (λ n. plain n rs) _ w.stays (λ g.
-      choose P (delete_protection key == 0) (plain 0 (removed h rs)) _ (λ e. w.removes) (λ n.
-      choose P (delete_protection key == 1) _ _ (λ e. pin (removed h rs) (inl (holds (is_target h rs) (search), e)) w.removes)
+      choose P (delete_protection key equals 0) (plain 0 (removed h rs)) _ (λ e. w.removes) (λ n.
+      choose P (delete_protection key equals 1) _ _ (λ e. pin (removed h rs) (inl (holds (is_target h rs) (search), e)) w.removes)
       (λ m. puk (removed h (map (puk_hit its_puk) rs)) w.removes_by_puk)))) (λ n80.
-      choose P (method c == 82) (unlock_key c chip rs) _ (λ e.
+      choose P (method c equals 82) (unlock_key c chip rs) _ (λ e.
       settled P (unlock_faults c chip key policy its_puk rs) (λ n. plain n rs) _ w.stays (λ g. puk (unlocked h rs) w.unlocks)) (λ n82.
-      choose P (method c == 83) (change_pin c chip rs) (use_key c chip rs) (λ e.
+      choose P (method c equals 83) (change_pin c chip rs) (use_key c chip rs) (λ e.
       settled P (change_faults c chip key policy rs) (λ n. plain n rs) _ w.stays (λ g.
       pin (map (changed key policy (typed_new c) rs) rs) (inr (search)) (w.changes g))) (λ n83.
       settled P (use_faults c chip key policy rs) (λ n. plain n rs) _ w.stays (λ g.
-      choose P (parent key == 0) (plain 0 rs) _ (λ e. w.stays 0) (λ n. pin (map (pin_hit key) rs) (inr n) w.uses)))))
+      choose P (parent key equals 0) (plain 0 rs) _ (λ e. w.stays 0) (λ n. pin (map (pin_hit key) rs) (inr n) w.uses)))))
     where
       pin : (done : List Rec) → (Fact (is_target h rs) × (delete_protection key ≡ 1)) ⊎ (parent key ≡ 0 → ⊥) → P (plain 0 done)
           → P (tried (pin_check policy key (typed c)) rs (map (pin_missed key) rs) done)
@@ -235,4 +235,4 @@ module _ (c chip : List ℕ) (rs : List Rec) where
   unfolding step
   by_step P w =
       choose P (is_session_call c) (session_step c chip rs) _ w.session (λ n.
-      choose P (method c == 2) (create_session c chip rs) (user_step c chip rs) (λ e. w.create) (λ m. w.user))
+      choose P (method c equals 2) (create_session c chip rs) (user_step c chip rs) (λ e. w.create) (λ m. w.user))

@@ -9,7 +9,7 @@ use lib.ListN.{length}
 use lib.Dec.{leb, ltb}
 use borrow.Author.Tests.{leb-false, ltb-false}
 use Rattle.paper.specs.Bytes.{byte, two, four, part, over}
-use Rattle.paper.specs.Form.{Rec, ◌==◌}
+use Rattle.paper.specs.Form.{Rec, ◌equals◌}
 use Rattle.paper.proofs.Forms.{contrary, cases}
 use Rattle.laws.proofs.Bytes.{length_over, byte-over_other, part_same, two-same, four_same}
 
@@ -57,7 +57,7 @@ pub missed : (touched : ℕ → Bool) (i n : ℕ) → hit touched i n ≡ false 
 missed touched i zero e j a b = absurd (omega arith)
 missed touched i (suc n) e j a b =
     let w = neither (touched i) (hit touched (suc i) n) e in
-    cases (j == i) (λ q. rw q w.0) (λ q. missed touched (suc i) n w.1 j (omega arith) (omega arith))
+    cases (j equals i) (λ q. rw q w.0) (λ q. missed touched (suc i) n w.1 j (omega arith) (omega arith))
 
 -- fields that no edit touches
 module _ (touched : ℕ → Bool) (x x' : Rec) (same : Same touched x x') where

@@ -4,7 +4,7 @@ use mathlib.Core.Bool.{true, cond}
 use mathlib.Core.List.{List}
 use Prim.Native.Nat.{ℕ}
 use Rattle.hmac.specs.Same.{same}
-use Rattle.paper.specs.Form.{Rec, Form, ◌==◌, say, no, ◌and◌, Fact}
+use Rattle.paper.specs.Form.{Rec, Form, ◌equals◌, say, no, ◌and◌, Fact}
 use Rattle.paper.specs.Records.{retry_limit, key_errors, puk_errors, value}
 use Rattle.paper.specs.Pin.{Verdict, locked, wrong, right, verdict, pin_check, puk_check}
 use Rattle.paper.specs.Act.{Out, plain}
@@ -13,7 +13,7 @@ use Rattle.laws.proofs.Choice.{choose}
 
 -- at the limit, and the limit counts
 abbrev pub locked_at : ℕ → ℕ → Form
-locked_at limit errors = no (limit == 0) and errors == limit
+locked_at limit errors = no (limit equals 0) and errors equals limit
 
 pub verdict-is : (P : Verdict → Type 0) (limit errors : ℕ) (stored typed : List ℕ) → (Fact (locked_at limit errors) → P locked)
     → ((Fact (locked_at limit errors) → ⊥) → (same stored typed ≡ true → ⊥) → P wrong)

@@ -9,7 +9,7 @@ use lib.Dec.{leb}
 use lib.ListN.{length, length-append, length-replicate}
 use Rattle.paper.specs.Limits.{longest_id, longest_public_key}
 use Rattle.paper.specs.Bytes.{byte, two, within}
-use Rattle.paper.specs.Form.{Rec, ◌==◌, test, Fact, some, Fault}
+use Rattle.paper.specs.Form.{Rec, ◌equals◌, test, Fact, some, Fault}
 use Rattle.paper.specs.Records.{SessionValue, POLICY, is, at, block, max_length}
 use Rattle.paper.specs.Table.{obeys_table}
 use Rattle.paper.specs.Sound.{Sound}
@@ -38,7 +38,7 @@ fits_long pol v e =
 
 module _ (q : Key) (pol : Rec) (short : max_length pol ≤ 16) (ruled : Fact (breaks_rule q (pin_of q pol) pol) → ⊥) where
   pin_short : length (pin_of q pol) ≤ 16
-  pin_short = cases (q.policy == 0) (λ e. rw (eq-eqb q.policy 0 e) (omega arith)) (λ n. go n (pin_fits pol (pin_of q pol)) refl)
+  pin_short = cases (q.policy equals 0) (λ e. rw (eq-eqb q.policy 0 e) (omega arith)) (λ n. go n (pin_fits pol (pin_of q pol)) refl)
     where
       go : (q.policy ≡ 0 → ⊥) → (b : Bool) → pin_fits pol (pin_of q pol) ≡ b → length (pin_of q pol) ≤ 16
       go n true e = let l = fits_long pol (pin_of q pol) e in omega arith

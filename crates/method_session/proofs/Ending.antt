@@ -6,7 +6,7 @@ use mathlib.Core.Option.{none}
 use Prim.Native.Nat.{ℕ}
 use lib.Dec.{eqb}
 use borrow.Author.Tests.{ne_eqb}
-use Rattle.paper.specs.Form.{Rec, ◌==◌, ◌and◌, test, some, exists, only}
+use Rattle.paper.specs.Form.{Rec, ◌equals◌, ◌and◌, test, some, exists, only}
 use Rattle.paper.specs.Records.{SessionValue, records, kind, PUK, POLICY, KEY, own, session, parent, block, bears, zeros}
 use Rattle.paper.specs.Sound.{child, childless}
 use Rattle.paper.specs.Calls.{subject, close_in, abort_form}
@@ -36,8 +36,8 @@ again false b false = refl
 -- a child bears its parent's session, so that it is looked for among all records
 child-at : (t k : ℕ) (rs : List Rec) (y : Rec) → session y ≡ t → test (child (block t rs) k y) ≡ test (some rs (chosen (Child k (own y) t)))
 child-at t k rs y e =
-    subst (λ (n : ℕ). test (some (block t rs) (λ x. kind x == k and parent x == own y and session x == n)) ≡ test (some rs (chosen (Child k (own y) t)))) (sym e)
-    (sym (some_block t (λ x. kind x == k and parent x == own y and session x == t) rs)
+    subst (λ (n : ℕ). test (some (block t rs) (λ x. kind x equals k and parent x equals own y and session x equals n)) ≡ test (some rs (chosen (Child k (own y) t)))) (sym e)
+    (sym (some_block t (λ x. kind x equals k and parent x equals own y and session x equals t) rs)
     ∙ ap (λ (p : Rec → Bool). exists p rs) (λ i x. again (eqb (kind x) k) (eqb (parent x) (own y)) (eqb (session x) t) i))
 
 pub childless-at : (t : ℕ) (rs : List Rec) (y : Rec) → session y ≡ t

@@ -1,6 +1,6 @@
 -- The refusals of methods 3 and 5 at the store's records, and what a close does not suffer in a session.
 use Rattle.std.specs.Prelude.{List, ℕ}
-use Rattle.paper.specs.Form.{Rec, Form, ◌==◌, ◌and◌, Fault}
+use Rattle.paper.specs.Form.{Rec, Form, ◌equals◌, ◌and◌, Fault}
 use Rattle.paper.specs.Records.{SessionValue, kind, KEY, PENDING, path_set, is_stale, bears, block}
 use Rattle.paper.specs.Sound.{childless}
 use Rattle.paper.specs.Calls.{subject, close_in}
@@ -14,9 +14,9 @@ faults3 x c chip rs = close_faults c chip (close_in c) x (block (subject c) rs)
 
 -- A key without path, a PUK or a policy without child, a stale pending; among the records `blk`.
 abbrev pub flawed : Flaw → List Rec → Rec → Form
-flawed Pathless blk r = kind r == KEY and path_set r == 0
+flawed Pathless blk r = kind r equals KEY and path_set r equals 0
 flawed Childless blk r = childless blk r
-flawed Stale blk r = kind r == PENDING and is_stale r == 1
+flawed Stale blk r = kind r equals PENDING and is_stale r equals 1
 
 -- Such a record of the session t.
 abbrev pub flaw_in : ℕ → Flaw → List Rec → Rec → Form

@@ -6,7 +6,7 @@
 #![tactic(auto)]
 
 ghost use Rattle.std.specs.Prelude.{◌≡◌, not, ◌&&◌, List, map, ℕ, eqb, length};
-ghost use Rattle.paper.specs.Form.{Rec, test, ◌==◌, no};
+ghost use Rattle.paper.specs.Form.{Rec, test, ◌equals◌, no};
 ghost use Rattle.paper.specs.Records.{records};
 ghost use Rattle.paper.specs.Calls.{typed as typedIn, typed_new};
 ghost use Rattle.paper.specs.Pin.{verdict, pin_check, puk_check, pin_missed, puk_missed};
@@ -77,7 +77,7 @@ fn new_pin<'a>(c: &'a [u8]) -> &'a [u8]
 }
 
 fn is_given(c: &[u8]) -> bool
-    ensures { result ≡ test (no (length (typedIn c.now) == 0)) }
+    ensures { result ≡ test (no (length (typedIn c.now) equals 0)) }
 {
     let v = typed(c);
     v.len() != 0

@@ -6,7 +6,7 @@ use mathlib.Core.List.{List, [], ◌∷◌, Memᴰ}
 use mathlib.Core.Logic.{◌⊎◌, inl, inr}
 use Prim.Native.Nat.{ℕ}
 use borrow.Author.Tests.{eqb-true, eq-eqb, leb-true, le-leb}
-use Rattle.paper.specs.Form.{Rec, Form, ◌==◌, ◌=<◌, say, no, ◌and◌, ◌or◌, ◌then◌, each, some, apart, every, exists, pairs, Pairs, test, Fact, Fault, ◌gives◌, settle}
+use Rattle.paper.specs.Form.{Rec, Form, ◌equals◌, ◌=<◌, say, no, ◌and◌, ◌or◌, ◌then◌, each, some, apart, every, exists, pairs, Pairs, test, Fact, Fault, ◌gives◌, settle}
 
 pub contrary {ℓ} : {C : Type ℓ} → true ≡ false → C
 contrary e = absurd (subst D e tt)
@@ -84,7 +84,7 @@ agree_pairs p P h (x ∷ xs) =
 
 -- the two readings of every statement
 pub both : (f : Form) → Agree (test f) (Fact f)
-both (a == b) = (eqb-true a b, eq-eqb a b)
+both (a equals b) = (eqb-true a b, eq-eqb a b)
 both (a =< b) = (leb-true a b, le-leb a b)
 both (say b) = ((λ e. e), λ e. e)
 both (no f) = agree_not (test f) (both f)

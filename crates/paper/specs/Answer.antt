@@ -2,7 +2,7 @@
 use Rattle.std.specs.Prelude.{cond, List, [], ◌∷◌, ◌++◌, ℕ, ◌-◌, ◌/◌, length, replicate, eqb, ltb}
 use Rattle.paper.specs.Limits.{record_bytes, bytes_from, reply_bytes}
 use Rattle.paper.specs.Bytes.{enc4, over, zeros_of}
-use Rattle.paper.specs.Form.{Rec, Form, ◌==◌, say, no, ◌and◌, test, Fault, ◌gives◌, settle}
+use Rattle.paper.specs.Form.{Rec, Form, ◌equals◌, say, no, ◌and◌, test, Fault, ◌gives◌, settle}
 use Rattle.paper.specs.Records.{records, joined, SESSION, COUNTER, OPEN, at, state, block, zeros}
 use Rattle.paper.specs.Sound.{length_fits, sound}
 use Rattle.paper.specs.Calls.{method, subject, is_session_call, known, post_in}
@@ -45,7 +45,7 @@ step c chip rs =
 
 -- What comes before the method's own refusals, and leaves the store as it is.
 abbrev pub is_open : ℕ → List Rec → Form
-is_open s rs = state (at SESSION s s rs) == OPEN
+is_open s rs = state (at SESSION s s rs) equals OPEN
 
 abbrev pub early_faults : List ℕ → List ℕ → List Fault
 early_faults s c =

@@ -4,7 +4,7 @@
 use Rattle.std.specs.Prelude.{true, false, List, [], ◌∷◌, ℕ, zero, suc, ◌+◌, length}
 use Rattle.paper.specs.Limits.{shortest_call, longest_call, longest_id, longest_pin, longest_public_key, key_bytes, mac_bytes, longest_server_key, longest_management_key, longest_uri, longest_nonce, longest_encrypted, longest_pin_value, longest_seed, longest_name, longest_parameters, longest_authorization}
 use Rattle.paper.specs.Bytes.{byte, two, four, part, string_at, behind}
-use Rattle.paper.specs.Form.{Form, ◌==◌, ◌=<◌, say, ◌and◌, ◌or◌}
+use Rattle.paper.specs.Form.{Form, ◌equals◌, ◌=<◌, say, ◌and◌, ◌or◌}
 use Rattle.paper.specs.Table.{printable}
 
 -- Byte 0 is the method. Session calls start with the session handle, user calls with a key handle.
@@ -16,7 +16,7 @@ subject c = four 1 c
 
 abbrev pub one_of : List ℕ → ℕ → Form
 one_of [] m = say false
-one_of (n ∷ ns) m = m == n or one_of ns m
+one_of (n ∷ ns) m = m equals n or one_of ns m
 
 abbrev pub session_methods : List ℕ
 session_methods = 3 ∷ 5 ∷ 8 ∷ 9 ∷ 10 ∷ 12 ∷ 50 ∷ 51 ∷ []
@@ -33,7 +33,7 @@ is_user_call c = one_of user_methods (method c)
 -- The first 16: the method is known and the length fits.
 abbrev pub known : List ℕ → Form
 known c =
-    shortest_call =< length c and length c =< longest_call and (method c == 2 or is_session_call c or is_user_call c)
+    shortest_call =< length c and length c =< longest_call and (method c equals 2 or is_session_call c or is_user_call c)
 
 -- The forms of single fields at place k.
 abbrev pub flag_at : ℕ → List ℕ → Form
@@ -46,7 +46,7 @@ abbrev pub id_at : ℕ → List ℕ → Form
 id_at k c = length_at 1 longest_id k c and say (printable (string_at k c))
 
 abbrev pub no_chip : List ℕ → Form
-no_chip chip = length chip == 0
+no_chip chip = length chip equals 0
 
 -- 2 createProvisioningSession
 abbrev pub privacy_at : List ℕ → ℕ
@@ -95,8 +95,8 @@ abbrev pub create_form : List ℕ → List ℕ → Form
 create_form c chip =
     flag_at (privacy_at c) c and id_at (server_at c) c
     and length_at 1 longest_server_key (ephemeral_at c) c and length_at 1 longest_uri (issuer_at c) c
-    and length_at 0 longest_management_key (management_at c) c and times_at c + 10 == length c
-    and id_at key_bytes chip and behind key_bytes chip == length chip
+    and length_at 0 longest_management_key (management_at c) c and times_at c + 10 equals length c
+    and id_at key_bytes chip and behind key_bytes chip equals length chip
 
 -- 3 closeProvisioningSession
 pub record Close : Type 0 where
@@ -107,11 +107,11 @@ abbrev pub close_in : List ℕ → Close
 close_in c = record { nonce = string_at 5 c; mac = part (behind 5 c) mac_bytes c }
 
 abbrev pub close_form : List ℕ → List ℕ → Form
-close_form c chip = length_at 1 longest_nonce 5 c and behind 5 c + mac_bytes == length c and no_chip chip
+close_form c chip = length_at 1 longest_nonce 5 c and behind 5 c + mac_bytes equals length c and no_chip chip
 
 -- 5 abortProvisioningSession: nothing more
 abbrev pub abort_form : List ℕ → List ℕ → Form
-abort_form c chip = length c == 5 and no_chip chip
+abort_form c chip = length c equals 5 and no_chip chip
 
 -- 8 createPUKPolicy. In 8, 9 and 10 the ID stands at 5.
 abbrev pub behind_id : List ℕ → ℕ
@@ -142,7 +142,7 @@ puk_in c chip =
 
 abbrev pub puk_form : List ℕ → List ℕ → Form
 puk_form c chip =
-    id_at 5 c and length_at 1 longest_encrypted (behind_id c) c and puk_rules_at c + 2 + mac_bytes == length c
+    id_at 5 c and length_at 1 longest_encrypted (behind_id c) c and puk_rules_at c + 2 + mac_bytes equals length c
     and 1 =< length chip and length chip =< longest_pin
 
 -- 9 createPINPolicy
@@ -180,7 +180,7 @@ policy_in c =
 abbrev pub policy_form : List ℕ → List ℕ → Form
 policy_form c chip =
     id_at 5 c and flag_at (behind_id c + 4) c and flag_at (behind_id c + 5) c
-    and behind_id c + 13 + mac_bytes == length c and no_chip chip
+    and behind_id c + 13 + mac_bytes equals length c and no_chip chip
 
 -- 10 createKeyEntry
 abbrev pub seed_at : List ℕ → ℕ
@@ -250,9 +250,9 @@ abbrev pub key_form : List ℕ → List ℕ → Form
 key_form c chip =
     id_at 5 c and length_at 0 longest_seed (seed_at c) c and length_at 0 longest_pin_value (policy_at c + 4) c
     and flag_at (flags_at c) c and length_at 0 longest_name (friendly_at c) c and length_at 0 longest_parameters (parameters_at c) c
-    and endorsed_at c + 2 + mac_bytes == length c
+    and endorsed_at c + 2 + mac_bytes equals length c
     and length_at 1 longest_public_key 0 chip and length_at 0 longest_pin (behind 0 chip) chip
-    and behind (behind 0 chip) chip == length chip
+    and behind (behind 0 chip) chip equals length chip
 
 -- 12 setCertificatePath: a count byte, then that many strings.
 abbrev pub strings : ℕ → ℕ → List ℕ → List (List ℕ)
@@ -289,7 +289,7 @@ path_in c =
 
 abbrev pub path_form : List ℕ → List ℕ → Form
 path_form c chip =
-    1 =< byte 9 c and filled_at (byte 9 c) 10 c and path_end c + mac_bytes == length c and no_chip chip
+    1 =< byte 9 c and filled_at (byte 9 c) 10 c and path_end c + mac_bytes equals length c and no_chip chip
 
 -- 50 postDeleteKey, 51 postUnlockKey
 pub record Post : Type 0 where
@@ -310,8 +310,8 @@ post_in c chip =
 
 abbrev pub post_form : List ℕ → List ℕ → Form
 post_form c chip =
-    length_at 1 longest_authorization 9 c and behind 9 c + mac_bytes == length c
-    and length chip == 1 and flag_at 0 chip
+    length_at 1 longest_authorization 9 c and behind 9 c + mac_bytes equals length c
+    and length chip equals 1 and flag_at 0 chip
 
 -- 80 delete: Authorization; 82 unlock: PUK; 83 change: PIN and new PIN; 100 use: PIN
 abbrev pub typed : List ℕ → List ℕ
@@ -321,9 +321,9 @@ abbrev pub typed_new : List ℕ → List ℕ
 typed_new c = string_at (behind 5 c) c
 
 abbrev pub typed_form : List ℕ → List ℕ → Form
-typed_form c chip = length_at 0 longest_pin 5 c and behind 5 c == length c and no_chip chip
+typed_form c chip = length_at 0 longest_pin 5 c and behind 5 c equals length c and no_chip chip
 
 abbrev pub change_form : List ℕ → List ℕ → Form
 change_form c chip =
     length_at 0 longest_pin 5 c and length_at 0 longest_pin (behind 5 c) c
-    and behind (behind 5 c) c == length c and no_chip chip
+    and behind (behind 5 c) c equals length c and no_chip chip

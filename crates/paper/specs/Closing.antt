@@ -2,7 +2,7 @@
 use Rattle.std.specs.Prelude.{Bool, false, cond, List, [], ◌∷◌, map, ℕ, zero, suc, ◌+◌, length, eqb}
 use Rattle.paper.specs.Limits.{key_bytes}
 use Rattle.paper.specs.Bytes.{enc2, zeros_of, over}
-use Rattle.paper.specs.Form.{Rec, Form, ◌==◌, ◌=<◌, say, no, ◌and◌, ◌or◌, each, some, test, only, seek}
+use Rattle.paper.specs.Form.{Rec, Form, ◌equals◌, ◌=<◌, say, no, ◌and◌, ◌or◌, each, some, test, only, seek}
 use Rattle.paper.specs.Records.{kind, SESSION, PUK, POLICY, KEY, PENDING, CLOSED, own, session, parent, is, bears, state, mac_counter, operation, is_stale, zeros}
 use Rattle.paper.specs.Pin.{clear}
 use Rattle.paper.specs.Mac.{uses}
@@ -24,36 +24,36 @@ lost rs such gone = some rs (λ x. such x and gone x) and no (some rs (λ x. suc
 -- Removing a key frees a policy left without child, its PUK left without child, and a closed session left without key.
 module _ (d : Keys) (rs : List Rec) where
   abbrev pub key_goes : Rec → Form
-  key_goes r = kind r == KEY and say (d (own r))
+  key_goes r = kind r equals KEY and say (d (own r))
 
   abbrev pub policy_goes : Rec → Form
-  policy_goes r = kind r == POLICY and lost rs (λ x. kind x == KEY and parent x == own r and session x == session r) key_goes
+  policy_goes r = kind r equals POLICY and lost rs (λ x. kind x equals KEY and parent x equals own r and session x equals session r) key_goes
 
   abbrev pub puk_goes : Rec → Form
-  puk_goes r = kind r == PUK and lost rs (λ x. kind x == POLICY and parent x == own r and session x == session r) policy_goes
+  puk_goes r = kind r equals PUK and lost rs (λ x. kind x equals POLICY and parent x equals own r and session x equals session r) policy_goes
 
   abbrev pub session_goes : Rec → Form
-  session_goes r = kind r == SESSION and state r == CLOSED and lost rs (λ x. kind x == KEY and session x == own r) key_goes
+  session_goes r = kind r equals SESSION and state r equals CLOSED and lost rs (λ x. kind x equals KEY and session x equals own r) key_goes
 
   abbrev pub goes : Rec → Form
   goes r = key_goes r or policy_goes r or puk_goes r or session_goes r
 
 -- Unlocking clears the key's and its PUK's counts.
 abbrev pub key_unlocked : Keys → Rec → Form
-key_unlocked u r = kind r == KEY and say (u (own r))
+key_unlocked u r = kind r equals KEY and say (u (own r))
 
 abbrev pub puk_unlocked : Keys → List Rec → Rec → Form
 puk_unlocked u rs r =
-    kind r == PUK
-    and some rs (λ p. kind p == POLICY and parent p == own r and session p == session r
-    and some rs (λ k. key_unlocked u k and parent k == own p and session k == session r))
+    kind r equals PUK
+    and some rs (λ p. kind p equals POLICY and parent p equals own r and session p equals session r
+    and some rs (λ k. key_unlocked u k and parent k equals own p and session k equals session r))
 
 -- A key removed, unlocked or given a PIN marks every other pending on it stale. The mark is never undone.
 unfoldable pub stale : Rec → Rec
 stale r = over 2 (1 ∷ []) (over 12 (zeros_of 4) r)
 
 abbrev pub pending_on : Keys → Rec → Form
-pending_on ks r = kind r == PENDING and say (ks (parent r))
+pending_on ks r = kind r equals PENDING and say (ks (parent r))
 
 -- The keys of d are removed and those of u unlocked.
 unfoldable pub effect : Keys → Keys → List Rec → Rec → Rec
@@ -65,22 +65,22 @@ effect d u rs r =
 
 -- A session holds a key while it has an unstale pending on it.
 abbrev pub held : ℕ → ℕ → Rec → Form
-held s k q = kind q == PENDING and session q == s and is_stale q == 0 and parent q == k
+held s k q = kind q equals PENDING and session q equals s and is_stale q equals 0 and parent q equals k
 
 unfoldable pub holds : ℕ → ℕ → List Rec → Keys
-holds s op rs k = test (some rs (λ q. held s k q and operation q == op))
+holds s op rs k = test (some rs (λ q. held s k q and operation q equals op))
 
 -- The session's own records at its close: pendings are freed; the SessionKey is zeroed and the session closed, or freed if it has no key.
 unfoldable pub shut : Rec → Rec
 shut r = over 1 (CLOSED ∷ []) (over 82 (zeros_of key_bytes) (over 114 (enc2 (mac_counter r + uses 3)) r))
 
 abbrev pub has_key : ℕ → List Rec → Form
-has_key s rs = some rs (λ x. kind x == KEY and session x == s)
+has_key s rs = some rs (λ x. kind x equals KEY and session x equals s)
 
 unfoldable pub sealed : ℕ → List Rec → Rec → Rec
 sealed s rs r =
-    cond (test (kind r == PENDING)) zeros
-    (cond (test (kind r == SESSION)) (cond (test (has_key s rs)) (shut r) zeros) r)
+    cond (test (kind r equals PENDING)) zeros
+    (cond (test (kind r equals SESSION)) (cond (test (has_key s rs)) (shut r) zeros) r)
 
 -- A close in one shot: what becomes of each record.
 unfoldable pub closing : ℕ → List Rec → Rec → Rec
@@ -88,7 +88,7 @@ closing s rs r = cond (test (bears s r)) (sealed s rs r) (effect (holds s 50 rs)
 
 -- The same, literally: pendings are carried out by rising handle and freed, then the session is sealed.
 abbrev pub is_pending : ℕ → Rec → Form
-is_pending s q = kind q == PENDING and session q == s and is_stale q == 0
+is_pending s q = kind q equals PENDING and session q equals s and is_stale q equals 0
 
 abbrev pub lowest : ℕ → List Rec → Rec
 lowest s rs = seek (λ q. is_pending s q and each rs (λ p. no (is_pending s p) or own q =< own p)) rs

@@ -7,13 +7,13 @@ use mathlib.Core.List.{List, [], ◌∷◌, Memᴰ}
 abbrev pub Rec : Type 0
 Rec = List ℕ
 
-infix 50 ◌==◌
+infix 50 ◌equals◌
 infix 50 ◌=<◌
 infixr 40 ◌and◌
 infixr 35 ◌or◌
 infixr 30 ◌then◌
 pub data Form : Type 0 where
-  ◌==◌ ◌=<◌ : ℕ → ℕ → Form
+  ◌equals◌ ◌=<◌ : ℕ → ℕ → Form
   say : Bool → Form
   no : Form → Form
   ◌and◌ ◌or◌ ◌then◌ : Form → Form → Form
@@ -39,7 +39,7 @@ Pairs P [] = Unit {0}
 Pairs P (x ∷ xs) = ((y : Rec) → Memᴰ y xs → P x y) × Pairs P xs
 
 abbrev pub test : Form → Bool
-test (a == b) = eqb a b
+test (a equals b) = eqb a b
 test (a =< b) = leb a b
 test (say b) = b
 test (no f) = not (test f)
@@ -51,7 +51,7 @@ test (some xs p) = exists (λ x. test (p x)) xs
 test (apart xs p) = pairs (λ x y. test (p x y)) xs
 
 abbrev pub Fact : Form → Type 0
-Fact (a == b) = a ≡ b
+Fact (a equals b) = a ≡ b
 Fact (a =< b) = a ≤ b
 Fact (say b) = b ≡ true
 Fact (no f) = Fact f → ⊥

@@ -7,7 +7,7 @@ use Prim.Native.String.{String}
 use Rattle.hmac.specs.Same.{same}
 use Rattle.paper.specs.Limits.{longest_call, longest_id, longest_public_key, key_bytes, mac_bytes, last_count, longest_nonce, longest_encrypted, longest_pin_value, longest_seed, longest_name, longest_parameters, longest_authorization}
 use Rattle.paper.specs.Bytes.{enc2, enc4, string, string_at, behind, over, ascii}
-use Rattle.paper.specs.Form.{Form, ◌==◌, ◌=<◌, say, no, ◌and◌, ◌or◌, Fault, ◌gives◌, settle}
+use Rattle.paper.specs.Form.{Form, ◌equals◌, ◌=<◌, say, no, ◌and◌, ◌or◌, Fault, ◌gives◌, settle}
 use Rattle.paper.specs.Table.{printable}
 use Rattle.paper.specs.Calls.{Close, Puk, Policy, Key, Path, Post, strings, filled_at, behind_strings}
 use Rattle.paper.specs.Mac.{mac_under, uses, name_or, close_data_of, puk_data, policy_data_of, key_data_of, path_data_of, post_name, post_data, key_attested_of}
@@ -24,7 +24,7 @@ seal_of i name text = mac_under i.key (ascii name) i.counter text
 
 -- A SessionKey of 32 bytes, and a counter with room for the call's uses.
 abbrev pub ready : ℕ → Issuer → Form
-ready m i = length i.key == key_bytes and i.counter + uses m =< last_count
+ready m i = length i.key equals key_bytes and i.counter + uses m =< last_count
 
 abbrev pub has_length : ℕ → ℕ → List ℕ → Form
 has_length lo hi v = lo =< length v and length v =< hi
@@ -111,7 +111,7 @@ pub record PolicyOrder : Type 0 where
 
 abbrev pub policy_ordered : Issuer → PolicyOrder → Form
 policy_ordered i o =
-    ready 9 i and is_id o.id and (o.puk == 0 or is_id o.puk_id) and o.defined =< 1 and o.modifiable =< 1
+    ready 9 i and is_id o.id and (o.puk equals 0 or is_id o.puk_id) and o.defined =< 1 and o.modifiable =< 1
 
 abbrev pub policy_as : PolicyOrder → List ℕ → Policy
 policy_as o m =
@@ -171,8 +171,8 @@ pub record KeyOrder : Type 0 where
 
 abbrev pub pin_ordered : KeyOrder → Form
 pin_ordered o =
-    (o.policy == 0 and o.pin_kind == no_pin)
-    or (no (o.policy == 0) and (o.pin_kind == user_pin or o.pin_kind == issuer_pin) and is_id o.policy_id)
+    (o.policy equals 0 and o.pin_kind equals no_pin)
+    or (no (o.policy equals 0) and (o.pin_kind equals user_pin or o.pin_kind equals issuer_pin) and is_id o.policy_id)
 
 abbrev pub key_ordered : Issuer → KeyOrder → Form
 key_ordered i o =
@@ -227,7 +227,7 @@ pub record PathOrder : Type 0 where
 abbrev pub certificates_ordered : PathOrder → Form
 certificates_ordered o =
     1 =< o.count and filled_at o.count 0 o.certificates
-    and behind_strings o.count 0 o.certificates == length o.certificates
+    and behind_strings o.count 0 o.certificates equals length o.certificates
 
 abbrev pub path_ordered : Issuer → PathOrder → Form
 path_ordered i o = ready 12 i and is_id o.key_id and has_length 1 longest_public_key o.public and certificates_ordered o
@@ -255,7 +255,7 @@ pub record PostOrder : Type 0 where
 
 abbrev pub post_ordered : Issuer → PostOrder → Form
 post_ordered i o =
-    ready 50 i and (o.method == 50 or o.method == 51) and has_length 1 longest_authorization o.authorization
+    ready 50 i and (o.method equals 50 or o.method equals 51) and has_length 1 longest_authorization o.authorization
 
 abbrev pub post_as : PostOrder → List ℕ → ℕ → Post
 post_as o m verified = record { key = o.key; authorization = o.authorization; mac = m; verified = verified }
@@ -269,7 +269,7 @@ post_call i o = head_of o.method i ++ enc4 o.key ++ string o.authorization ++ po
 -- The two attestations, checked with the counter of the call that they answer: they are made at the next, which must exist.
 abbrev pub attests : List ℕ → ℕ → List ℕ → List ℕ → Form
 attests key counter text given =
-    length key == key_bytes and length given == mac_bytes and counter + 1 =< last_count
+    length key equals key_bytes and length given equals mac_bytes and counter + 1 =< last_count
     and say (same given (mac_under key (ascii "Device Attestation") (counter + 1) text))
 
 abbrev pub key_attests : List ℕ → ℕ → List ℕ → List ℕ → List ℕ → Form

@@ -6,7 +6,7 @@ use Rattle.sha256.specs.Sha256.{SHA256}
 use Rattle.hmac.specs.Same.{same}
 use Rattle.paper.specs.Limits.{bytes_from, pin_end, longest_id, longest_pin, longest_public_key, last_format, last_grouping, last_patterns, last_protection}
 use Rattle.paper.specs.Bytes.{enc4, padded_text, over, zeros_of, ascii}
-use Rattle.paper.specs.Form.{Rec, Form, ◌==◌, ◌=<◌, say, no, ◌and◌, ◌or◌, some, only, Fault, ◌gives◌, settle}
+use Rattle.paper.specs.Form.{Rec, Form, ◌equals◌, ◌=<◌, say, no, ◌and◌, ◌or◌, some, only, Fault, ◌gives◌, settle}
 use Rattle.paper.specs.Records.{kind, PUK, POLICY, KEY, is, at, parent, id, value, SessionValue, grouping, path_set}
 use Rattle.paper.specs.Sound.{has_id, governs}
 use Rattle.paper.specs.Text.{format_fits, pin_fits}
@@ -24,7 +24,7 @@ differs given made = no (say (same given made))
 
 -- A nonzero handle that isn't such a policy of this session.
 abbrev pub not_there : ℕ → Rec → ℕ → Form
-not_there k found handle = no (handle == 0) and no (kind found == k)
+not_there k found handle = no (handle equals 0) and no (kind found equals k)
 
 -- What every call that makes an object is asked last: its MAC, and an object number.
 abbrev pub sealed_by : List ℕ → List ℕ → SessionValue → List Fault
@@ -72,11 +72,11 @@ policy_names c chip q puk blk =
 abbrev pub policy_numbers : Policy → SessionValue → List Fault
 policy_numbers q x =
     (no (q.format =< last_format) gives 17)
-    ∷ (q.retry == 0 gives 17)
+    ∷ (q.retry equals 0 gives 17)
     ∷ (no (q.grouping =< last_grouping) gives 17)
     ∷ (no (q.patterns =< last_patterns) gives 17)
     ∷ (no (1 =< q.min_length and q.min_length =< q.max_length and q.max_length =< longest_pin) gives 17)
-    ∷ (no (q.input == 0) gives 17)
+    ∷ (no (q.input equals 0) gives 17)
     ∷ (passes_limit (uses 9) x gives 17)
     ∷ []
 
@@ -109,38 +109,38 @@ pin_of q pol = cond (eqb q.policy 0) [] (cond (issuer_sets q pol) q.opened q.pin
 -- A PIN or PINValue given where none belongs; an issuer-set PINValue that is empty.
 abbrev pub misplaced : Key → Rec → Form
 misplaced q pol =
-    (q.policy == 0 and no (length q.pin_value == 0))
-    or (no (say (issuer_sets q pol)) and no (length q.opened == 0))
-    or (say (issuer_sets q pol) and length q.pin_value == 0)
+    (q.policy equals 0 and no (length q.pin_value equals 0))
+    or (no (say (issuer_sets q pol)) and no (length q.opened equals 0))
+    or (say (issuer_sets q pol) and length q.pin_value equals 0)
 
 -- `v` is the PIN.
 abbrev pub breaks_rule : Key → List ℕ → Rec → Form
-breaks_rule q v pol = no (q.policy == 0) and no (say (pin_fits pol v))
+breaks_rule q v pol = no (q.policy equals 0) and no (say (pin_fits pol v))
 
 -- Under grouping 1 a PIN unlike that of the policy's other keys.
 abbrev pub unlike : List ℕ → Rec → List Rec → Form
-unlike v pol blk = grouping pol == 1 and some blk (λ x. governs pol x and no (say (same (value x) v)))
+unlike v pol blk = grouping pol equals 1 and some blk (λ x. governs pol x and no (say (same (value x) v)))
 
 -- DeleteProtection 1 without PIN, 2 without PUK.
 abbrev pub unprotected : Key → Rec → Form
-unprotected q pol = (q.deletion == 1 and q.policy == 0) or (q.deletion == 2 and parent pol == 0)
+unprotected q pol = (q.deletion equals 1 and q.policy equals 0) or (q.deletion equals 2 and parent pol equals 0)
 
 abbrev pub key_names : List ℕ → List ℕ → Key → Rec → List Rec → List Fault
 key_names c chip q pol blk =
     (no (key_form c chip) gives 16)
     ∷ (differs q.entry_algorithm (ascii "http://xmlns.webpki.org/sks/algorithm#key.1") gives 8)
     ∷ (differs q.key_algorithm (ascii "urn:oid:1.2.840.10045.3.1.7") gives 8)
-    ∷ (no (q.endorsed == 0) gives 8)
+    ∷ (no (q.endorsed equals 0) gives 8)
     ∷ (taken q.id blk gives 17)
     ∷ (not_there POLICY pol q.policy gives 17)
     ∷ []
 
 abbrev pub key_numbers : Key → List Fault
 key_numbers q =
-    (no (q.biometric == 0) gives 17)
+    (no (q.biometric equals 0) gives 17)
     ∷ (no (q.export =< last_protection) gives 17)
     ∷ (no (q.deletion =< last_protection) gives 17)
-    ∷ (no (length q.parameters == 0) gives 17)
+    ∷ (no (length q.parameters equals 0) gives 17)
     ∷ []
 
 abbrev pub key_pin : Key → List ℕ → Rec → SessionValue → List Rec → List Fault
@@ -180,8 +180,8 @@ make_key c chip blk = make_key_by (itself c blk) c chip blk
 abbrev pub path_rules : List ℕ → List ℕ → Rec → SessionValue → List Fault
 path_rules c chip k x =
     (no (path_form c chip) gives 16)
-    ∷ (no (kind k == KEY) gives 7)
-    ∷ (path_set k == 1 gives 17)
+    ∷ (no (kind k equals KEY) gives 7)
+    ∷ (path_set k equals 1 gives 17)
     ∷ (passes_limit (uses 12) x gives 17)
     ∷ []
 

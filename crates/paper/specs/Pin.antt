@@ -2,7 +2,7 @@
 use Rattle.std.specs.Prelude.{not, ◌&&◌, cond, List, [], ◌∷◌, ℕ, ◌+◌, eqb}
 use Rattle.hmac.specs.Same.{same}
 use Rattle.paper.specs.Bytes.{byte, enc1, over}
-use Rattle.paper.specs.Form.{Rec, Form, ◌==◌, no, ◌and◌, only}
+use Rattle.paper.specs.Form.{Rec, Form, ◌equals◌, no, ◌and◌, only}
 use Rattle.paper.specs.Records.{KEY, PUK, is, own, session, retry_limit, key_errors, puk_errors, value}
 
 -- At the limit; else wrong or right. A limit of 0 keeps no count and never locks.
@@ -39,7 +39,7 @@ unfoldable pub pin_hit : Rec → Rec → Rec
 pin_hit key = only (the_key key) (clear 2)
 
 unfoldable pub puk_missed : Rec → Rec → Rec
-puk_missed puk = only (λ r. the_puk puk r and no (retry_limit r == 0)) (add_one 3)
+puk_missed puk = only (λ r. the_puk puk r and no (retry_limit r equals 0)) (add_one 3)
 
 unfoldable pub puk_hit : Rec → Rec → Rec
 puk_hit puk = only (the_puk puk) (clear 3)

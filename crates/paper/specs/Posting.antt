@@ -4,7 +4,7 @@ use Rattle.std.proofs.Math.Option.{some as just}
 use Prim.Native.String.{String}
 use Rattle.paper.specs.Limits.{bytes_from}
 use Rattle.paper.specs.Bytes.{enc4, zeros_of}
-use Rattle.paper.specs.Form.{Rec, Form, ◌==◌, say, no, ◌and◌, some, test, Fault, ◌gives◌, settle}
+use Rattle.paper.specs.Form.{Rec, Form, ◌equals◌, say, no, ◌and◌, some, test, Fault, ◌gives◌, settle}
 use Rattle.paper.specs.Records.{kind, SESSION, KEY, PENDING, CLOSED, at, session_of, parent, state, key_management, SessionValue}
 use Rattle.paper.specs.Closing.{held}
 use Rattle.paper.specs.Calls.{subject, Post, post_in, post_form}
@@ -21,7 +21,7 @@ home k rs = at SESSION (session_of k) (session_of k) rs
 
 -- A key of a closed session.
 abbrev pub is_target : ℕ → List Rec → Form
-is_target k rs = kind (target k rs) == KEY and state (home k rs) == CLOSED
+is_target k rs = kind (target k rs) equals KEY and state (home k rs) equals CLOSED
 
 -- All that a session call sees of the key it names in another session.
 pub record Look : Type 0 where
@@ -33,8 +33,8 @@ unfoldable pub look : ℕ → List Rec → Look
 look k rs =
     record {
       there = test (is_target k rs);
-      managed = test (key_management (home k rs) == 1);
-      pinned = test (no (parent (target k rs) == 0));
+      managed = test (key_management (home k rs) equals 1);
+      pinned = test (no (parent (target k rs) equals 0));
     }
 
 -- No such key; a target without KeyManagementKey, already pending in this session, or (51) without PIN.
@@ -44,14 +44,14 @@ post_rules op c chip q x blk l =
     ∷ (no (say l.there) gives 7)
     ∷ (no (say l.managed) gives 17)
     ∷ (some blk (held (subject c) q.key) gives 17)
-    ∷ (op == 51 and no (say l.pinned) gives 17)
+    ∷ (op equals 51 and no (say l.pinned) gives 17)
     ∷ (passes_limit (uses 50) x gives 17)
     ∷ []
 
 abbrev pub post_seal : String → Post → SessionValue → List Fault
 post_seal name q x =
     (differs q.mac (mac x name (post_data q)) gives 3)
-    ∷ (q.verified == 0 gives 4)
+    ∷ (q.verified equals 0 gives 4)
     ∷ (objects_used_up x gives 2)
     ∷ []
 

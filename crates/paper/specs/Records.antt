@@ -3,7 +3,7 @@ use Rattle.std.specs.Prelude.{Bool, cond, List, [], ◌∷◌, ◌++◌, ℕ, ze
 use Rattle.hmac.specs.Same.{same}
 use Rattle.paper.specs.Limits.{record_bytes, handle_step, key_bytes}
 use Rattle.paper.specs.Bytes.{byte, two, four, part, zeros_of, text_at}
-use Rattle.paper.specs.Form.{Rec, Form, ◌==◌, say, ◌and◌, some, seek, keep}
+use Rattle.paper.specs.Form.{Rec, Form, ◌equals◌, say, ◌and◌, some, seek, keep}
 
 -- The store is its records one after another.
 unfoldable pub records_of : ℕ → List ℕ → List Rec
@@ -164,14 +164,14 @@ session_of h = h / handle_step * handle_step
 
 -- A look-up goes by kind, own handle and session, so that the counter's number is never taken for a handle.
 abbrev pub is : ℕ → ℕ → ℕ → Rec → Form
-is k o s r = kind r == k and own r == o and session r == s
+is k o s r = kind r equals k and own r equals o and session r equals s
 
 unfoldable pub at : ℕ → ℕ → ℕ → List Rec → Rec
 at k o s rs = seek (is k o s) rs
 
 -- The session's own records: all that bear its handle.
 abbrev pub bears : ℕ → Rec → Form
-bears s r = session r == s
+bears s r = session r equals s
 
 unfoldable pub block : ℕ → List Rec → List Rec
 block s rs = keep (bears s) rs

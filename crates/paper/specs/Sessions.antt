@@ -4,7 +4,7 @@ use Rattle.std.proofs.Math.Option.{none}
 use Rattle.hmac.specs.Same.{same}
 use Rattle.paper.specs.Limits.{bytes_from, longest_id, most_sessions}
 use Rattle.paper.specs.Bytes.{enc2, enc4, padded_text, over, zeros_of, ascii}
-use Rattle.paper.specs.Form.{Rec, Form, ◌==◌, ◌=<◌, say, no, ◌and◌, ◌or◌, some, only, seek, Fault, ◌gives◌, settle}
+use Rattle.paper.specs.Form.{Rec, Form, ◌equals◌, ◌=<◌, say, no, ◌and◌, ◌or◌, some, only, seek, Fault, ◌gives◌, settle}
 use Rattle.paper.specs.Records.{kind, SESSION, KEY, PENDING, COUNTER, OPEN, SessionValue, handle, client_id, next_session, path_set, is_stale, zeros, room, insert}
 use Rattle.paper.specs.Sound.{childless}
 use Rattle.paper.specs.Calls.{Create, create_in, create_form, Close, close_in, close_form, abort_form}
@@ -14,16 +14,16 @@ use Rattle.paper.specs.Act.{Out, plain, no_attestation, Act, refuse, inside, clo
 
 -- 2 createProvisioningSession. The counter tells the next session number.
 abbrev pub counter : List Rec → Rec
-counter rs = seek (λ r. kind r == COUNTER) rs
+counter rs = seek (λ r. kind r equals COUNTER) rs
 
 abbrev pub client_taken : List ℕ → List Rec → Form
-client_taken name rs = some rs (λ r. kind r == SESSION and say (same (client_id r) name))
+client_taken name rs = some rs (λ r. kind r equals SESSION and say (same (client_id r) name))
 
 abbrev pub create_faults : List ℕ → List ℕ → Create → List Rec → List Fault
 create_faults c chip q rs =
     (no (create_form c chip) gives 16)
     ∷ (differs q.algorithm (ascii "http://xmlns.webpki.org/sks/algorithm#session.1") gives 8)
-    ∷ (q.limit == 0 gives 17)
+    ∷ (q.limit equals 0 gives 17)
     ∷ (client_taken q.client rs gives 17)
     ∷ (no (next_session (counter rs) =< most_sessions) gives 2)
     ∷ (no (room rs) gives 2)
@@ -39,7 +39,7 @@ session_record h q =
     ∷ q.key ∷ enc2 0 ∷ enc2 q.limit ∷ (q.privacy ∷ []) ∷ (given q.management ∷ []) ∷ q.times ∷ zeros_of (bytes_from 128) ∷ [])
 
 unfoldable pub counted : Rec → Rec
-counted = only (λ r. kind r == COUNTER) (λ r. over 4 (enc4 (next_session r + 1)) r)
+counted = only (λ r. kind r equals COUNTER) (λ r. over 4 (enc4 (next_session r + 1)) r)
 
 unfoldable pub create_session : List ℕ → List ℕ → List Rec → Out
 create_session c chip rs =
@@ -55,9 +55,9 @@ create_session c chip rs =
 -- 3 closeProvisioningSession: a key lacks its path, a policy has no child, or a pending is stale.
 abbrev pub unfit : List Rec → Form
 unfit blk =
-    some blk (λ r. kind r == KEY and path_set r == 0)
+    some blk (λ r. kind r equals KEY and path_set r equals 0)
     or some blk (childless blk)
-    or some blk (λ r. kind r == PENDING and is_stale r == 1)
+    or some blk (λ r. kind r equals PENDING and is_stale r equals 1)
 
 abbrev pub close_rules : List ℕ → List ℕ → SessionValue → List Fault
 close_rules c chip x = (no (close_form c chip) gives 16) ∷ (passes_limit (uses 3) x gives 17) ∷ []

@@ -3,7 +3,7 @@
 use Rattle.std.specs.Prelude.{cond, List, [], ◌∷◌, map, ℕ, length, eqb}
 use Rattle.paper.specs.Limits.{longest_pin}
 use Rattle.paper.specs.Bytes.{padded_text, over}
-use Rattle.paper.specs.Form.{Rec, Form, ◌==◌, say, no, ◌and◌, ◌or◌, some, only, Fault, ◌gives◌, settle}
+use Rattle.paper.specs.Form.{Rec, Form, ◌equals◌, say, no, ◌and◌, ◌or◌, some, only, Fault, ◌gives◌, settle}
 use Rattle.paper.specs.Records.{kind, PUK, POLICY, PENDING, at, own, session, parent, grouping, user_modifiable, delete_protection}
 use Rattle.paper.specs.Sound.{governs}
 use Rattle.paper.specs.Text.{pin_fits}
@@ -38,8 +38,8 @@ abbrev pub delete_faults : List ℕ → List ℕ → Rec → List Rec → List F
 delete_faults c chip x rs =
     (no (typed_form c chip) gives 16)
     ∷ (no (is_target (subject c) rs) gives 7)
-    ∷ (delete_protection x == 3 gives 17)
-    ∷ (delete_protection x == 0 and no (length (typed c) == 0) gives 1)
+    ∷ (delete_protection x equals 3 gives 17)
+    ∷ (delete_protection x equals 0 and no (length (typed c) equals 0) gives 1)
     ∷ []
 
 -- It compares the PIN under DeleteProtection 1, the PUK under 2.
@@ -59,7 +59,7 @@ abbrev pub unlock_faults : List ℕ → List ℕ → Rec → Rec → Rec → Lis
 unlock_faults c chip x pol puk rs =
     (no (typed_form c chip) gives 16)
     ∷ (no (is_target (subject c) rs) gives 7)
-    ∷ (parent x == 0 or (kind pol == POLICY and parent pol == 0) gives 17)
+    ∷ (parent x equals 0 or (kind pol equals POLICY and parent pol equals 0) gives 17)
     ∷ (not_there POLICY pol (parent x) or not_there PUK puk (parent pol) gives 20)
     ∷ []
 
@@ -78,21 +78,21 @@ abbrev pub change_faults : List ℕ → List ℕ → Rec → Rec → List Rec �
 change_faults c chip x pol rs =
     (no (change_form c chip) gives 16)
     ∷ (no (is_target (subject c) rs) gives 7)
-    ∷ (parent x == 0 gives 17)
-    ∷ (user_modifiable pol == 0 gives 17)
+    ∷ (parent x equals 0 gives 17)
+    ∷ (user_modifiable pol equals 0 gives 17)
     ∷ (no (say (pin_fits pol (typed_new c))) gives 17)
     ∷ []
 
 -- Under grouping 1 it sets the PIN of all the policy's keys; the count of the named key alone becomes 0.
 abbrev pub given_pin : Rec → Rec → Rec → Form
-given_pin x pol r = the_key x r or (grouping pol == 1 and governs pol r)
+given_pin x pol r = the_key x r or (grouping pol equals 1 and governs pol r)
 
 unfoldable pub new_pin : List ℕ → Rec → Rec
 new_pin v r = over 49 (padded_text longest_pin v) r
 
 unfoldable pub changed : Rec → Rec → List ℕ → List Rec → Rec → Rec
 changed x pol v rs r =
-    only (λ q. kind q == PENDING and some rs (λ y. given_pin x pol y and own y == parent q)) stale
+    only (λ q. kind q equals PENDING and some rs (λ y. given_pin x pol y and own y equals parent q)) stale
     (pin_hit x (only (given_pin x pol) (new_pin v) r))
 
 unfoldable pub change_pin : List ℕ → List ℕ → List Rec → Out
@@ -108,7 +108,7 @@ use_faults c chip x pol rs =
     (no (typed_form c chip) gives 16)
     ∷ (no (is_target (subject c) rs) gives 7)
     ∷ (not_there POLICY pol (parent x) gives 20)
-    ∷ (parent x == 0 and no (length (typed c) == 0) gives 1)
+    ∷ (parent x equals 0 and no (length (typed c) equals 0) gives 1)
     ∷ []
 
 unfoldable pub use_key : List ℕ → List ℕ → List Rec → Out

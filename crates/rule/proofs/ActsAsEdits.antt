@@ -7,7 +7,7 @@ use mathlib.Core.Option.{Option, none, some as just}
 use mathlib.Core.Logic.{◌⊎◌, inl, inr}
 use Prim.Native.Nat.{ℕ}
 use native.Mathlib.Omega.{arith}
-use Rattle.paper.specs.Form.{Rec, Form, ◌==◌, some, Fact, only, keep, seek}
+use Rattle.paper.specs.Form.{Rec, Form, ◌equals◌, some, Fact, only, keep, seek}
 use Rattle.paper.specs.Records.{own, session, bears, zeros, is_free, room}
 use Rattle.paper.specs.Closing.{closing, holds}
 use Rattle.paper.specs.Act.{Act, refuse, inside, close, perform, wiped, placed, fits_in}
@@ -106,7 +106,7 @@ module _ (s : ℕ) (asks : ℕ → Type 0) where
   pub edit_keeps : (act : Act) → KeepsTo s asks act → (φ : Rec → Form) → ((x : Rec) → Fact (φ x) → session x ≡ s → ⊥) → (Fact (φ zeros) → ⊥) → (rs rs' : List Rec)
       → ((x : Rec) → Memᴰ x rs → Fact (φ x) → edit_of s act rs' x ≡ x)
       → ((x : Rec) → Memᴰ x rs → (session x ≡ s → ⊥) → Fact (φ (edit_of s act rs' x)) → Fact (φ x)) → Keeps φ (edit_of s act rs') rs
-  edit_keeps act t φ off z rs rs' stay back x m = (stay x m, λ p. cases (session x == s) (λ e. absurd (own e p (edit_session act t rs' x))) (λ n. back x m n p))
+  edit_keeps act t φ off z rs rs' stay back x m = (stay x m, λ p. cases (session x equals s) (λ e. absurd (own e p (edit_session act t rs' x))) (λ n. back x m n p))
     where
       own : session x ≡ s → Fact (φ (edit_of s act rs' x)) → Same' x (edit_of s act rs' x) → ⊥
       own e p (inl i) = off (edit_of s act rs' x) p (i ∙ e)

@@ -10,7 +10,7 @@ use Rattle.hmac.specs.Same.{same}
 use Rattle.hmac.proofs.Sameness.{eq_same}
 use Rattle.paper.specs.Limits.{longest_pin, pin_width}
 use Rattle.paper.specs.Bytes.{part, padded_text, within}
-use Rattle.paper.specs.Form.{Rec, Form, ◌==◌, ◌and◌, some, Fact, only}
+use Rattle.paper.specs.Form.{Rec, Form, ◌equals◌, ◌and◌, some, Fact, only}
 use Rattle.paper.specs.Records.{kind, POLICY, KEY, PENDING, own, session, parent, at, grouping, format, patterns, min_length, max_length}
 use Rattle.paper.specs.Sound.{governs}
 use Rattle.paper.specs.Text.{pin_fits, format_fits, pattern_fits}
@@ -70,7 +70,7 @@ module _ (rs : List Rec) (F : Facts rs) (k s : ℕ) where
 
       alike : (p y z : Rec) → Memᴰ p rs → Memᴰ y rs → Memᴰ z rs → grouping p ≡ 1 → Fact (governs p y) → Fact (governs p z)
           → same (part 49 pin_width (only group (new_pin v) y)) (part 49 pin_width (only group (new_pin v) z)) ≡ true
-      alike p y z mp my mz g gy gz = cases (own p == parent x and session p == session x)
+      alike p y z mp my mz g gy gz = cases (own p equals parent x and session p equals session x)
           (λ w.
           let f = policy_found in
           let kp = f.1.0 in
@@ -96,7 +96,7 @@ module _ (rs : List Rec) (F : Facts rs) (k s : ℕ) where
           })
 
       abbrev pub stale_pin : Rec → Form
-      stale_pin q = kind q == PENDING and some rs (λ y. given_pin x pol y and own y == parent q)
+      stale_pin q = kind q equals PENDING and some rs (λ y. given_pin x pol y and own y equals parent q)
 
       pub changed_kept : Facts (map (changed x pol v rs) rs)
       unfolding changed

@@ -3,7 +3,7 @@ use mathlib.Core.Path.{◌≡◌, refl}
 use mathlib.Core.Bool.{cond}
 use mathlib.Core.List.{List}
 use Prim.Native.Nat.{ℕ}
-use Rattle.paper.specs.Form.{Rec, ◌==◌, test, Fact}
+use Rattle.paper.specs.Form.{Rec, ◌equals◌, test, Fact}
 use Rattle.paper.specs.Records.{kind, SESSION, PENDING, session, bears, zeros}
 use Rattle.paper.specs.Closing.{shut, has_key, sealed, closing, effect, holds}
 use Rattle.laws.proofs.Choice.{choose}
@@ -28,8 +28,8 @@ module _ (s : ℕ) (rs : List Rec) where
       → (kind x ≡ SESSION → (Fact (has_key s rs) → ⊥) → P zeros) → ((kind x ≡ PENDING → ⊥) → (kind x ≡ SESSION → ⊥) → P x) → P (sealed s rs x)
   unfolding sealed
   sealed-is P x p q z o =
-      choose P (kind x == PENDING) zeros (cond (test (kind x == SESSION)) (cond (test (has_key s rs)) (shut x) zeros) x) p (λ n.
-      choose P (kind x == SESSION) (cond (test (has_key s rs)) (shut x) zeros) x (λ k. choose P (has_key s rs) (shut x) zeros (q k) (z k)) (o n))
+      choose P (kind x equals PENDING) zeros (cond (test (kind x equals SESSION)) (cond (test (has_key s rs)) (shut x) zeros) x) p (λ n.
+      choose P (kind x equals SESSION) (cond (test (has_key s rs)) (shut x) zeros) x (λ k. choose P (has_key s rs) (shut x) zeros (q k) (z k)) (o n))
 
 pub shut-kind : (x : Rec) → kind (shut x) ≡ kind x
 shut-kind x = (shut-same x).at 0 refl

@@ -6,7 +6,7 @@ use mathlib.Core.List.{List, map, Memᴰ}
 use mathlib.Core.Logic.{◌⊎◌, inl, inr}
 use Prim.Native.Nat.{ℕ, ◌≤◌}
 use native.Mathlib.Omega.{arith}
-use Rattle.paper.specs.Form.{Rec, ◌==◌, ◌and◌, some, test, Fact}
+use Rattle.paper.specs.Form.{Rec, ◌equals◌, ◌and◌, some, test, Fact}
 use Rattle.paper.specs.Records.{kind, SESSION, POLICY, KEY, PENDING, OPEN, own, session, parent, session_of, bears, state, operation, zeros}
 use Rattle.paper.specs.Sound.{child}
 use Rattle.paper.specs.Closing.{Keys, goes, effect, held, holds, shut, has_key, sealed, closing}
@@ -70,7 +70,7 @@ module _ (s : ℕ) (rs : List Rec) (F : Facts rs) (G : Fit s rs) (Some-number : 
   off : (op : ℕ) (k : Rec) → Memᴰ k rs → kind k ≡ KEY → session k ≡ s → holds s op rs (own k) ≡ true → ⊥
   unfolding holds
   off op k m a e h =
-      let q = (both (some rs (λ q. held s (own k) q and operation q == op))).0 h in
+      let q = (both (some rs (λ q. held s (own k) q and operation q equals op))).0 h in
       let p = q.2.0.1.1.1 in
       let c = (carries rs F k m (omega arith, omega arith)).0 in
       let o = (F.alone k m).object_carries (omega arith, omega arith) in
@@ -121,7 +121,7 @@ module _ (s : ℕ) (rs : List Rec) (F : Facts rs) (G : Fit s rs) (Some-number : 
 
   sealed-same : (x : Rec) → sealed s rs1 x ≡ sealed s rs x
   unfolding sealed
-  sealed-same x = ap (λ (b : Bool). cond (test (kind x == PENDING)) zeros (cond (test (kind x == SESSION)) (cond b (shut x) zeros) x)) keys_same
+  sealed-same x = ap (λ (b : Bool). cond (test (kind x equals PENDING)) zeros (cond (test (kind x equals SESSION)) (cond b (shut x) zeros) x)) keys_same
 
   sealed_pending : (l : List Rec) (x : Rec) → kind x ≡ PENDING → sealed s l x ≡ zeros
   sealed_pending l x k = sealed-is s l (λ y. y ≡ zeros) x (λ j. refl) (λ j. absurd (omega arith)) (λ j n. refl) (λ n m. absurd (n k))
@@ -137,7 +137,7 @@ module _ (s : ℕ) (rs : List Rec) (F : Facts rs) (G : Fit s rs) (Some-number : 
       other n (inr K) e = n (sym K.session= ∙ e)
 
       mine : session x ≡ s → seal s rs1 (f x) ≡ sealed s rs x
-      mine e = cases (kind x == PENDING)
+      mine e = cases (kind x equals PENDING)
           (λ k.
           let w = effect_pending d u rs F s offs x m e k in
           only_in (bears s) (sealed s rs1) (f x) w.1 ∙ sealed_pending rs1 (f x) w.0 ∙ sym (sealed_pending rs x k))

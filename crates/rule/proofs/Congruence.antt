@@ -12,7 +12,7 @@ use lib.Dec.{eqb, ltb, lit≤}
 use Rattle.hmac.specs.Same.{same}
 use Rattle.paper.specs.Limits.{reply_bytes, most_sessions}
 use Rattle.paper.specs.Bytes.{all_within}
-use Rattle.paper.specs.Form.{Rec, Form, ◌==◌, ◌=<◌, say, no, ◌and◌, some, test, Fact, only, Fault, ◌gives◌, settle}
+use Rattle.paper.specs.Form.{Rec, Form, ◌equals◌, ◌=<◌, say, no, ◌and◌, some, test, Fact, only, Fault, ◌gives◌, settle}
 use Rattle.paper.specs.Records.{records, joined, kind, SESSION, PUK, POLICY, KEY, PENDING, COUNTER, OPEN, state, at, block, bears, session_of, parent, session, delete_protection, id, value, client_id, next_session, handle, zeros, is_free, room, insert}
 use Rattle.paper.specs.Sound.{sound, has_id, governs}
 use Rattle.paper.specs.Calls.{method, subject, is_session_call, Create, create_in, policy_in, key_in, path_in, post_in, typed, typed_new}
@@ -107,7 +107,7 @@ fits-map (just n) f xs z e =
 
 pub counted_zeros : counted zeros ≡ zeros
 unfolding counted
-counted_zeros = only_out (λ r. kind r == COUNTER) _ zeros (no_kind COUNTER (omega arith))
+counted_zeros = only_out (λ r. kind r equals COUNTER) _ zeros (no_kind COUNTER (omega arith))
 
 module _ (c chip : List ℕ) (rs rs' : List Rec) (E : Even rs rs') (F : Facts rs) (F' : Facts rs') where
   abbrev t : ℕ
@@ -246,7 +246,7 @@ module _ (c chip : List ℕ) (rs rs' : List Rec) (E : Even rs rs') (F : Facts rs
       made x xs = record { status = 0; handle = handle (next_session x) 0; attestation = no_attestation; store = insert (new x) (map counted xs) }
 
       clients : test (client_taken q.client rs) ≡ test (client_taken q.client rs')
-      clients = some_same rs rs' E (λ r. kind r == SESSION and say (same (client_id r) q.client)) (λ w. no_kind SESSION (omega arith) w.0)
+      clients = some_same rs rs' E (λ r. kind r equals SESSION and say (same (client_id r) q.client)) (λ w. no_kind SESSION (omega arith) w.0)
 
       onward : Even (map counted rs) (map counted rs')
       onward = map_even rs rs' E counted counted (λ x. refl) counted_zeros
@@ -352,7 +352,7 @@ module _ (s s' c chip : List ℕ) (bytes : all_within 0 255 c ≡ true) (e : sou
       settle_like Alike (early s) (early s') (told (step c chip rs)) (told (step c chip rs'))
       (λ n p q. record { status = refl; handle = refl; attestation = refl; content = S }) (λ y p q. absurd (p refl)) (λ y p q. absurd (q refl))
       {fs = early_faults s c} {gs = early_faults s' c}
-      (like (rw (e, e')) (like refl (like (ap (λ (r : Rec). test (is_session_call c and no (state r == OPEN))) sessions) end))) done
+      (like (rw (e, e')) (like refl (like (ap (λ (r : Rec). test (is_session_call c and no (state r equals OPEN))) sessions) end))) done
     where
       rs : List Rec
       rs = records s

@@ -10,7 +10,7 @@ use lib.ListN.{length}
 use lib.Dec.{lit≤}
 use Rattle.sha256.specs.Sha256.{SHA256}
 use Rattle.paper.specs.Bytes.{all_within}
-use Rattle.paper.specs.Form.{Rec, ◌=<◌, ◌==◌, test, Fact, only}
+use Rattle.paper.specs.Form.{Rec, ◌=<◌, ◌equals◌, test, Fact, only}
 use Rattle.paper.specs.Records.{records, kind, SESSION, KEY, PENDING, at, block, bears, is, session, mac_counter, key_limit}
 use Rattle.paper.specs.Sound.{sound}
 use Rattle.paper.specs.Calls.{method, subject, is_session_call, one_of, path_in, post_in}
@@ -150,7 +150,7 @@ module _ (s c chip reply : List ℕ) (bytes : all_within 0 255 c ≡ true) (T : 
       ∙ shut-mac ses long_enough (fits_word 2 left) ∙ ap (λ (x : Rec). mac_counter x + 2) ses_is ∙ ap (λ (n : ℕ). mac_counter (caller s c) + uses n) (sym m)
     where
       shuts : kind ses ≡ SESSION → session ses ≡ t → closing t rs ses ≡ shut ses
-      shuts i j = (unfold closing sealed in rw ((both (session ses == t)).1 j, fails (kind ses == PENDING) (λ z. omega arith), (both (kind ses == SESSION)).1 i, (both (has_key t rs)).1 k))
+      shuts i j = (unfold closing sealed in rw ((both (session ses equals t)).1 j, fails (kind ses equals PENDING) (λ z. omega arith), (both (kind ses equals SESSION)).1 i, (both (has_key t rs)).1 k))
 
   -- method by method: a close with a key, no abort
   counter-moved : (method c ≡ 3 → Fact (has_key t rs)) → (method c ≡ 5 → ⊥) → Moved
@@ -169,7 +169,7 @@ module _ (s c chip reply : List ℕ) (bytes : all_within 0 255 c ≡ true) (T : 
       refl
     where
       once : {op : ℕ} → method c ≡ op → 50 ≤ op → op ≤ 51 → uses (method c) ≡ 1
-      once e lo hi = cases (method c == 50) (λ i. ap uses i) (λ n. let i : method c ≡ 51 = omega arith in ap uses i)
+      once e lo hi = cases (method c equals 50) (λ i. ap uses i) (λ n. let i : method c ≡ 51 = omega arith in ap uses i)
 
 pub counted : Counted
 counted =

@@ -5,7 +5,7 @@ use Prim.Native.Nat.{ℕ, suc, ◌+◌, ◌%◌, ◌≤◌}
 use native.Mathlib.Omega.{arith}
 use lib.Dec.{lit≤}
 use Rattle.paper.specs.Bytes.{byte}
-use Rattle.paper.specs.Form.{Rec, Form, ◌==◌, ◌=<◌, no, ◌and◌, Fact, only}
+use Rattle.paper.specs.Form.{Rec, Form, ◌equals◌, ◌=<◌, no, ◌and◌, Fact, only}
 use Rattle.paper.specs.Records.{kind, PUK, POLICY, KEY, PENDING, session, parent, at, retry_limit, key_errors, puk_errors}
 use Rattle.paper.specs.Sound.{governs}
 use Rattle.paper.specs.Pin.{clear, add_one, the_key, the_puk, pin_missed, pin_hit, puk_missed, puk_hit}
@@ -118,7 +118,7 @@ module _ (rs : List Rec) (F : Facts rs) where
     pub puk_missed_kept : (Fact (locked_at (retry_limit puk) (puk_errors puk)) → ⊥) → Facts (map (puk_missed puk) rs)
     unfolding puk_missed
     puk_missed_kept free =
-        puk_count (λ r. the_puk puk r and no (retry_limit r == 0)) (add_one 3) (λ y p. p.0.0) (add_same 3) (λ y m p.
+        puk_count (λ r. the_puk puk r and no (retry_limit r equals 0)) (add_one 3) (λ y p. p.0.0) (add_same 3) (λ y m p.
         let e = at_only rs F PUK o s y (omega arith) (omega arith) m p.0 in
         let a = ap puk_errors e in
         let b = ap retry_limit e in

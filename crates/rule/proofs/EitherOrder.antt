@@ -8,7 +8,7 @@ use mathlib.Core.Logic.{◌⊎◌, inl, inr}
 use Prim.Native.Nat.{ℕ}
 use native.Mathlib.Omega.{arith}
 use lib.Dec.{lit≤}
-use Rattle.paper.specs.Form.{Rec, ◌==◌, Fact}
+use Rattle.paper.specs.Form.{Rec, ◌equals◌, Fact}
 use Rattle.paper.specs.Records.{kind, SESSION, KEY, PENDING, own, session, parent, session_of, bears, block, zeros}
 use Rattle.paper.specs.Sound.{has_handle}
 use Rattle.paper.specs.Closing.{Keys, holds, closing, shut, effect}
@@ -271,5 +271,5 @@ module _ (rs : List Rec) (a b : ℕ) (wa wb : ℕ → Type 0) (T : Two rs a b wa
       zb = real_b rs a b wa wb T
 
       swap : (x : Rec) → Memᴰ x rs → edit_of b B (outcome a A rs) (edit_of a A rs x) ≡ edit_of a A (outcome b B rs) (edit_of b B rs x)
-      swap x m = cases (session x == a) (λ e. swap_own rs a b wa wb T A t_a B t_b x m e) (λ na.
-          cases (session x == b) (λ e. sym (swap_own rs b a wb wa T' B t_b A t_a x m e)) (λ nb. third A B t_a t_b x m na nb))
+      swap x m = cases (session x equals a) (λ e. swap_own rs a b wa wb T A t_a B t_b x m e) (λ na.
+          cases (session x equals b) (λ e. sym (swap_own rs b a wb wa T' B t_b A t_a x m e)) (λ nb. third A B t_a t_b x m na nb))

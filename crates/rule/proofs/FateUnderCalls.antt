@@ -9,7 +9,7 @@ use lib.ListN.{length}
 use lib.Dec.{lit≤, lit<}
 use Rattle.paper.specs.Limits.{longest_id, longest_pin, key_bytes, bytes_from}
 use Rattle.paper.specs.Bytes.{enc2, enc4, over, padded_text, zeros_of}
-use Rattle.paper.specs.Form.{Rec, Form, ◌==◌, ◌=<◌, no, ◌and◌, some, Fact, only}
+use Rattle.paper.specs.Form.{Rec, Form, ◌equals◌, ◌=<◌, no, ◌and◌, some, Fact, only}
 use Rattle.paper.specs.Records.{kind, SESSION, KEY, PENDING, COUNTER, OPEN, own, session, parent, bears, next_session, retry_limit, zeros, insert, block, at, handle}
 use Rattle.paper.specs.Closing.{stale, closing, Keys, effect, holds, one, no_keys}
 use Rattle.paper.specs.Pin.{clear, add_one, the_key, the_puk, pin_missed, pin_hit, puk_missed, puk_hit}
@@ -43,7 +43,7 @@ module _ (a : ℕ) (rs : List Rec) (w : Whole rs) (b : Below a rs) where
   dead p = let i = p.0.0 in let j = byte-zeros 0 in omega arith
 
   turn-wiped : (s : ℕ) → Turn a rs (map (only (bears s) (λ r. zeros)) rs)
-  turn-wiped s = cases (s == a) (λ e. turn-ended a f rs w b long count (λ x m. gone e x))
+  turn-wiped s = cases (s equals a) (λ e. turn-ended a f rs w b long count (λ x m. gone e x))
       (λ n. turn-map a f rs w b (record { long = long; counter = count; opens = opens; pending = λ x m k e. inl (only_out (bears s) (λ r. zeros) x (λ i. n (sym i ∙ e))) }))
     where
       f : Rec → Rec
@@ -89,7 +89,7 @@ module _ (a : ℕ) (rs : List Rec) (w : Whole rs) (b : Below a rs) where
 
   -- a close
   turn-closing : (s : ℕ) → Turn a rs (map (closing s rs) rs)
-  turn-closing s = cases (s == a) (λ e. turn-ended a f rs w b long count (gone e))
+  turn-closing s = cases (s equals a) (λ e. turn-ended a f rs w b long count (gone e))
       (λ n. turn-map a f rs w b (record { long = long; counter = count; opens = opens n; pending = λ x m k e. rw (closing_out s rs x (λ i. n (sym i ∙ e))) (beyond.pending x m k e) }))
     where
       f : Rec → Rec
@@ -160,7 +160,7 @@ module _ (a : ℕ) (rs : List Rec) (w : Whole rs) (b : Below a rs) where
       Moves x y = (length y ≡ 256) × (kind y ≡ kind x) × (kind x ≡ COUNTER → next_session x ≤ next_session y) × ((kind x ≡ COUNTER → ⊥) → y ≡ x)
 
       moves : (x : Rec) → Memᴰ x rs → Moves x (counted x)
-      moves x m = unfold counted in only-is (Moves x) (λ r. kind r == COUNTER) (λ r. over 4 (enc4 (next_session r + 1)) r) x
+      moves x m = unfold counted in only-is (Moves x) (λ r. kind r equals COUNTER) (λ r. over 4 (enc4 (next_session r + 1)) r) x
           (λ k. let o = onward_same x in (
             o.long ∙ w x m,
             o.at 0 refl,
@@ -224,7 +224,7 @@ module _ (a : ℕ) (rs : List Rec) (w : Whole rs) (b : Below a rs) where
 
   harm_puk_missed : (puk x : Rec) → Harmless x (puk_missed puk x)
   unfolding puk_missed
-  harm_puk_missed puk x = only-is (Harmless x) (λ r. the_puk puk r and no (retry_limit r == 0)) (add_one 3) x
+  harm_puk_missed puk x = only-is (Harmless x) (λ r. the_puk puk r and no (retry_limit r equals 0)) (add_one 3) x
       (λ i. same-turned (from 3 1) x (add_one 3 x) (add_same 3 x) refl refl (let k = i.0.0 in omega arith) (let k = i.0.0 in omega arith)) (λ n. same refl)
 
   harm_puk_hit : (puk x : Rec) → Harmless x (puk_hit puk x)
@@ -264,7 +264,7 @@ module _ (a : ℕ) (rs : List Rec) (w : Whole rs) (b : Below a rs) where
   harm_changed key pol v x = only-is (Harmless x) stalely stale y (λ p. marks keyed p.0) (λ n. stays keyed)
     where
       stalely : Rec → Form
-      stalely q = kind q == PENDING and some rs (λ z. given_pin key pol z and own z == parent q)
+      stalely q = kind q equals PENDING and some rs (λ z. given_pin key pol z and own z equals parent q)
 
       y : Rec
       y = pin_hit key (only (given_pin key pol) (new_pin v) x)

@@ -9,7 +9,7 @@ use native.Mathlib.Omega.{arith}
 use lib.Dec.{lit≤}
 use Rattle.paper.specs.Limits.{handle_step}
 use Rattle.paper.specs.Bytes.{enc4, over}
-use Rattle.paper.specs.Form.{Rec, Form, ◌==◌, ◌or◌, Fact, only}
+use Rattle.paper.specs.Form.{Rec, Form, ◌equals◌, ◌or◌, Fact, only}
 use Rattle.paper.specs.Records.{kind, SESSION, COUNTER, own, session, bears, session_of, next_object, next_session, zeros, insert}
 use Rattle.paper.specs.Sound.{is_object, has_handle}
 use Rattle.paper.specs.Pin.{clear}
@@ -108,7 +108,7 @@ module _ (x : Rec) where
 
   pub rises_counted : Alone x → Rises x (counted x)
   unfolding counted
-  rises_counted A = rises_only (λ r. kind r == COUNTER) (λ r. over 4 (enc4 (next_session r + 1)) r) (λ k.
+  rises_counted A = rises_only (λ r. kind r equals COUNTER) (λ r. over 4 (enc4 (next_session r + 1)) r) (λ k.
       let j = (onward_same x).at 0 refl in
       let n = next_onward x A k in
       record { counter = λ i. (k, omega arith); session = λ i. absurd (omega arith) })
@@ -152,4 +152,4 @@ module _ (rs : List Rec) (F : Facts rs) where
       }
 
   pub there_past : (y : Rec) → Memᴰ y rs → Fact (has_handle y) → Past (own y) rs
-  there_past y m (a, b) = cases (kind y == SESSION) (session_past y m) (λ n. object_past y m (omega arith, b))
+  there_past y m (a, b) = cases (kind y equals SESSION) (session_past y m) (λ n. object_past y m (omega arith, b))

@@ -13,7 +13,7 @@ use lib.Dec.{lit≤, lit<}
 use Rattle.sha256.specs.Sha256.{SHA256}
 use Rattle.paper.specs.Limits.{longest_id, longest_pin, longest_public_key, bytes_from, pin_end}
 use Rattle.paper.specs.Bytes.{two, four, over, padded_text, zeros_of, string_at}
-use Rattle.paper.specs.Form.{Rec, ◌==◌, ◌=<◌, say, ◌and◌, ◌or◌, Fact, only}
+use Rattle.paper.specs.Form.{Rec, ◌equals◌, ◌=<◌, say, ◌and◌, ◌or◌, Fact, only}
 use Rattle.paper.specs.Records.{by_value, kind, SESSION, PUK, POLICY, KEY, PENDING, own, session, parent, state, max_length, min_length, is, at, session_of, block, zeros}
 use Rattle.paper.specs.Sound.{is_object}
 use Rattle.paper.specs.Records.{format, patterns}
@@ -107,7 +107,7 @@ KeepsTo s asks (inside h t g new) = (((x : Rec) → g x ≡ zeros) × (new ≡ n
 
 -- the call asks for key k: a decoded 50 or 51 that names it
 abbrev pub Asking : List ℕ → List ℕ → ℕ → Type 0
-Asking c chip k = Fact ((method c == 50 or method c == 51) and post_form c chip) × ((post_in c chip).key ≡ k)
+Asking c chip k = Fact ((method c equals 50 or method c equals 51) and post_form c chip) × ((post_in c chip).key ≡ k)
 
 module _ (c chip : List ℕ) (rs : List Rec) (F : Facts rs) (is_on : Fact (is_open (subject c) rs)) where
   abbrev s : ℕ
@@ -152,7 +152,7 @@ module _ (c chip : List ℕ) (rs : List Rec) (F : Facts rs) (is_on : Fact (is_op
       under p t a b = let m = b.most in omega arith
 
   small : (k o : ℕ) → PUK ≤ k → k ≤ PENDING → (Fact (not_there k (at k o s blk) o) → ⊥) → o < 4294967296
-  small k o lo hi n = cases (o == 0) (λ z. omega arith) (λ z.
+  small k o lo hi n = cases (o equals 0) (λ z. omega arith) (λ z.
       let w = found s rs k o (omega arith) n z in
       let e = w.1.1.0 in
       let l = object_small (at k o s blk) w.0 (rw w.1.0 (lo, hi)) in
@@ -234,5 +234,5 @@ module _ (c chip : List ℕ) (rs : List Rec) (F : Facts rs) (is_on : Fact (is_op
         post = λ op name lo hi m w. inr (mild_advance s 1 1, post_born op name (λ f. ((asked (m h) lo hi, f), refl)) w);
       })
     where
-      asked : {op : ℕ} → method c ≡ op → 50 ≤ op → op ≤ 51 → Fact (method c == 50 or method c == 51)
-      asked e lo hi = holds (method c == 50 or method c == 51) (λ n. n (inr (holds (method c == 51) (λ m. n (inl (omega arith))))))
+      asked : {op : ℕ} → method c ≡ op → 50 ≤ op → op ≤ 51 → Fact (method c equals 50 or method c equals 51)
+      asked e lo hi = holds (method c equals 50 or method c equals 51) (λ n. n (inr (holds (method c equals 51) (λ m. n (inl (omega arith))))))

@@ -10,7 +10,7 @@ use native.Mathlib.Omega.{arith}
 use lib.ListN.{length}
 use lib.Dec.{eqb, lit≤}
 use borrow.Author.Tests.{eqb-true, eq-eqb}
-use Rattle.paper.specs.Form.{Rec, Form, ◌==◌, ◌=<◌, no, ◌and◌, ◌or◌, each, some, test, Fact, only}
+use Rattle.paper.specs.Form.{Rec, Form, ◌equals◌, ◌=<◌, no, ◌and◌, ◌or◌, each, some, test, Fact, only}
 use Rattle.paper.specs.Records.{records, kind, KEY, PENDING, own, session, parent, operation, session_of, is, bears, zeros}
 use Rattle.paper.specs.Sound.{has_handle}
 use Rattle.paper.specs.Closing.{Keys, no_keys, one, held, holds, has_key, sealed, closing, effect, goes, pending_on, is_pending, lowest, freed, carried, carry_out, seal_all, closed_literally}
@@ -158,7 +158,7 @@ module _ (rs : List Rec) (F : Facts rs) (whole : Whole rs) (a : ℕ) (oa : Fact 
 
     -- an own record that is not free is as it was
     same-own : (x : Rec) → Memᴰ x rs → session (h x) ≡ a → (session x ≡ a) × (h x ≡ x)
-    same-own x m e = cases (session x == a) (λ i. (i, go (S.mine x m i))) (λ n. absurd (beyond x m n e))
+    same-own x m e = cases (session x equals a) (λ i. (i, go (S.mine x m i))) (λ n. absurd (beyond x m n e))
       where
         go : (h x ≡ x) ⊎ Gone D U x (h x) → h x ≡ x
         go (inl i) = i
@@ -184,9 +184,9 @@ module _ (rs : List Rec) (F : Facts rs) (whole : Whole rs) (a : ℕ) (oa : Fact 
     module _ (finished : Fact (some rs1 (is_pending a)) → ⊥) where
       left : (op : ℕ) (K : Keys) → ((x : Rec) → Gone D U x (h x) → operation x ≡ op → K (parent x) ≡ true) → (k : ℕ) → holds a op rs k ≡ true → K k ≡ true
       unfolding holds
-      left op K carry k e = let w = (both (some rs (λ q. held a k q and operation q == op))).0 e in go w.0 w.1 w.2
+      left op K carry k e = let w = (both (some rs (λ q. held a k q and operation q equals op))).0 e in go w.0 w.1 w.2
         where
-          go : (q : Rec) → Memᴰ q rs → Fact (held a k q and operation q == op) → K k ≡ true
+          go : (q : Rec) → Memᴰ q rs → Fact (held a k q and operation q equals op) → K k ≡ true
           go q m (f, o) = at (S.mine q m f.1.0)
             where
               at : (h q ≡ q) ⊎ Gone D U q (h q) → K k ≡ true
@@ -212,7 +212,7 @@ module _ (rs : List Rec) (F : Facts rs) (whole : Whole rs) (a : ℕ) (oa : Fact 
               ∙ sym (closing_out a rs x n)
 
           at : (x : Rec) → Memᴰ x rs → only (bears a) (sealed a rs1) (h x) ≡ closing a rs x
-          at x m = cases (session x == a) (λ e. inside x e (S.mine x m e)) (outside x m)
+          at x m = cases (session x equals a) (λ e. inside x e (S.mine x m e)) (outside x m)
 
     -- ---- the next pending, q: the keys of d are removed, those of u unlocked
     module _ (q : Rec) (mq : Memᴰ q rs) (pq : Fact (is_pending a q)) (hq : h q ≡ q) (d u : Keys)
@@ -232,7 +232,7 @@ module _ (rs : List Rec) (F : Facts rs) (whole : Whole rs) (a : ℕ) (oa : Fact 
 
       q_holds : (op : ℕ) → operation q ≡ op → holds a op rs (parent q) ≡ true
       unfolding holds
-      q_holds op e = (both (some rs (λ z. held a (parent q) z and operation z == op))).1 (q, mq, (q_held, e))
+      q_holds op e = (both (some rs (λ z. held a (parent q) z and operation z equals op))).1 (q, mq, (q_held, e))
 
       real_target : parent q ≡ 0 → ⊥
       real_target z = held_real rs F a (parent q) (q, mq, q_held) z
@@ -287,7 +287,7 @@ module _ (rs : List Rec) (F : Facts rs) (whole : Whole rs) (a : ℕ) (oa : Fact 
       unfolding holds
       apart k e i =
           let v = only-u k i in
-          let w = (both (some rs (λ z. held a k z and operation z == 50))).0 (S.in_d k e) in
+          let w = (both (some rs (λ z. held a k z and operation z equals 50))).0 (S.in_d k e) in
           let f = w.2.0 in
           let c = ap operation (clash w.0 w.1 f.0 f.1.0 (f.1.1.1 ∙ v.0)) in
           let x = w.2.1 in
@@ -308,7 +308,7 @@ module _ (rs : List Rec) (F : Facts rs) (whole : Whole rs) (a : ℕ) (oa : Fact 
                   at o.0 o.1 o.2
                 where
                   at : (z : Rec) → Memᴰ z rs → y ≡ h z → (z : Rec) × Memᴰ z rs × (session z ≡ session x) × (y ≡ effect D U rs z)
-                  at z mz j = cases (session z == a) (λ c. absurd (own-one (S.mine z mz c) c)) (λ c. other c (effect-session D U rs z))
+                  at z mz j = cases (session z equals a) (λ c. absurd (own-one (S.mine z mz c) c)) (λ c. other c (effect-session D U rs z))
                     where
                       own-one : (h z ≡ z) ⊎ Gone D U z (h z) → session z ≡ a → ⊥
                       own-one (inl w) c = n (sym e ∙ ap session (j ∙ w) ∙ c)
@@ -367,7 +367,7 @@ module _ (rs : List Rec) (F : Facts rs) (whole : Whole rs) (a : ℕ) (oa : Fact 
           (ap (λ (y : Rec). test (is_pending a y)) hq ∙ (both (is_pending a q)).1 pq)
         where
           was : (x : Rec) → Memᴰ x rs → test (is_pending a (next x)) ≡ true → test (is_pending a (h x)) ≡ true
-          was x m e = (both (is_pending a (h x))).1 (cases (session x == a) (λ i. own-one i (S.mine x m i) (mine_next x m i))
+          was x m e = (both (is_pending a (h x))).1 (cases (session x equals a) (λ i. own-one i (S.mine x m i) (mine_next x m i))
               (λ n. absurd (other n (effect-session (◌or-else◌ D d) (◌or-else◌ U u) rs x))))
             where
               p : Fact (is_pending a (next x))

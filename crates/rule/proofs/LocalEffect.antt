@@ -5,7 +5,7 @@ use mathlib.Core.List.{List, [], ◌∷◌, map, Memᴰ}
 use mathlib.Core.Logic.{◌⊎◌, inl, inr}
 use Prim.Native.Nat.{ℕ}
 use native.Mathlib.Omega.{arith}
-use Rattle.paper.specs.Form.{Rec, Form, ◌==◌, ◌and◌, ◌or◌, some, test, Fact, keep, seek}
+use Rattle.paper.specs.Form.{Rec, Form, ◌equals◌, ◌and◌, ◌or◌, some, test, Fact, keep, seek}
 use Rattle.paper.specs.Records.{kind, SESSION, KEY, PENDING, own, session, parent, operation, session_of, block, zeros}
 use Rattle.paper.specs.Closing.{Keys, lost, key_goes, policy_goes, goes, key_unlocked, puk_unlocked, pending_on, stale, effect, held, holds, has_key, shut, sealed}
 use Rattle.paper.specs.Pin.{clear}
@@ -90,19 +90,19 @@ pub holds_local : (s op : ℕ) (rs rs' : List Rec) → block s rs ≡ block s rs
 holds_local s op rs rs' e = λ i k. at k i
   where
     at : (k : ℕ) → holds s op rs k ≡ holds s op rs' k
-    at k = unfold holds in same_test (some rs (λ q. held s k q and operation q == op)) (some rs' (λ q. held s k q and operation q == op))
-        (some_there s rs rs' e (λ q. held s k q and operation q == op) (λ q. held s k q and operation q == op) (λ x p. p.0.1.0) (λ x i p. p))
-        (some_there s rs' rs (sym e) (λ q. held s k q and operation q == op) (λ q. held s k q and operation q == op) (λ x p. p.0.1.0) (λ x i p. p))
+    at k = unfold holds in same_test (some rs (λ q. held s k q and operation q equals op)) (some rs' (λ q. held s k q and operation q equals op))
+        (some_there s rs rs' e (λ q. held s k q and operation q equals op) (λ q. held s k q and operation q equals op) (λ x p. p.0.1.0) (λ x i p. p))
+        (some_there s rs' rs (sym e) (λ q. held s k q and operation q equals op) (λ q. held s k q and operation q equals op) (λ x p. p.0.1.0) (λ x i p. p))
 
 pub sealed_by : (s : ℕ) (rs rs' : List Rec) → (Fact (has_key s rs) → Fact (has_key s rs')) → (Fact (has_key s rs') → Fact (has_key s rs)) → (x : Rec) → sealed s rs x ≡ sealed s rs' x
 unfolding sealed
 sealed_by s rs rs' f g x =
-    ap (λ (b : Bool). cond (test (kind x == PENDING)) zeros (cond (test (kind x == SESSION)) (cond b (shut x) zeros) x)) (same_test (has_key s rs) (has_key s rs') f g)
+    ap (λ (b : Bool). cond (test (kind x equals PENDING)) zeros (cond (test (kind x equals SESSION)) (cond b (shut x) zeros) x)) (same_test (has_key s rs) (has_key s rs') f g)
 
 pub sealed_local : (s : ℕ) (rs rs' : List Rec) → block s rs ≡ block s rs' → (x : Rec) → sealed s rs x ≡ sealed s rs' x
 sealed_local s rs rs' e x = sealed_by s rs rs'
-    (some_there s rs rs' e (λ y. kind y == KEY and session y == s) (λ y. kind y == KEY and session y == s) (λ y p. p.1) (λ y i p. p))
-    (some_there s rs' rs (sym e) (λ y. kind y == KEY and session y == s) (λ y. kind y == KEY and session y == s) (λ y p. p.1) (λ y i p. p)) x
+    (some_there s rs rs' e (λ y. kind y equals KEY and session y equals s) (λ y. kind y equals KEY and session y equals s) (λ y p. p.1) (λ y i p. p))
+    (some_there s rs' rs (sym e) (λ y. kind y equals KEY and session y equals s) (λ y. kind y equals KEY and session y equals s) (λ y p. p.1) (λ y i p. p)) x
 
 -- a session none of whose keys is removed or unlocked: its records stay as they are
 abbrev pub Off : ℕ → Keys → Type 0

@@ -14,7 +14,7 @@ use Rattle.hmac.proofs.Sameness.{same_eq}
 use Rattle.paper.specs.Limits.{longest_pin, last_format, last_grouping, last_patterns, last_protection, most_objects, pin_width}
 use Rattle.paper.specs.Bytes.{byte, four, part, padded_text, zeros_of, all_within}
 use Rattle.paper.specs.Table.{is_blank}
-use Rattle.paper.specs.Form.{Rec, ◌==◌, ◌=<◌, say, ◌and◌, some, Fact}
+use Rattle.paper.specs.Form.{Rec, ◌equals◌, ◌=<◌, say, ◌and◌, some, Fact}
 use Rattle.paper.specs.Records.{by_value, kind, SESSION, PUK, POLICY, KEY, own, session, parent, at, block, is, next_object, mac_counter, key_limit, grouping, value}
 use Rattle.paper.specs.Sound.{governs, is_in}
 use Rattle.paper.specs.Text.{pin_fits}
@@ -93,7 +93,7 @@ module _ (c chip : List ℕ) (rs : List Rec) (F : Facts rs) where
       pin_length pol (F.alone pol w.0) w.1.0 (pin_of q pol) (holds (say (pin_fits pol (pin_of q pol))) (λ m. b (z, m)))
 
   pub short : (Fact (not_there POLICY pol q.policy) → ⊥) → (Fact (breaks_rule q (pin_of q pol) pol) → ⊥) → length (pin_of q pol) ≤ longest_pin
-  short n b = cases (q.policy == 0) (λ z. rw (bare_pin z) (lit≤ tt)) (λ z. (pin_range n b z).1)
+  short n b = cases (q.policy equals 0) (λ z. rw (bare_pin z) (lit≤ tt)) (λ z. (pin_range n b z).1)
 
   same_pin : (Fact (unlike (pin_of q pol) pol blk) → ⊥) → (y : Rec) → Memᴰ y rs → session y ≡ s → grouping pol ≡ 1 → Fact (governs pol y)
       → part 49 pin_width y ≡ padded_text longest_pin (pin_of q pol)

@@ -7,7 +7,7 @@ use native.Mathlib.Omega.{arith}
 use lib.Dec.{lit≤}
 use Rattle.paper.specs.Limits.{most_objects, handle_step, pin_width, id_width}
 use Rattle.paper.specs.Bytes.{part}
-use Rattle.paper.specs.Form.{Rec, ◌==◌, Fact, only}
+use Rattle.paper.specs.Form.{Rec, ◌equals◌, Fact, only}
 use Rattle.paper.specs.Records.{kind, SESSION, PUK, POLICY, KEY, PENDING, OPEN, CLOSED, own, session, parent, session_of, is, bears, state, next_object, mac_counter, key_limit, retry_limit, key_errors, key_management, grouping, delete_protection, operation, insert}
 use Rattle.paper.specs.Sound.{is_object, has_handle, has_id, is_in, governs, puk_there, policy_there, target_there}
 use Rattle.paper.specs.Act.{moved, advance}
@@ -94,7 +94,7 @@ module _ (s N used : ℕ) (rs : List Rec) (F : Facts rs) (R : Ready s N used rs)
 
   -- no record has the next handle
   new : (x : Rec) → Memᴰ x rs → Fact (has_handle x) → own x ≡ s + N → ⊥
-  new x i h e = cases (kind x == SESSION)
+  new x i h e = cases (kind x equals SESSION)
       (λ k.
       let l = ((F.alone x i).session_carries k).1.1 in
       let v = even in
@@ -107,7 +107,7 @@ module _ (s N used : ℕ) (rs : List Rec) (F : Facts rs) (R : Ready s N used rs)
       let we = w.2.1.0 in
       let v = even in
       let q = numbered in
-      cases (session x == s)
+      cases (session x equals s)
       (λ t.
       let g = (F.related w.0 w.1 x i).below_next w.2.0 (omega arith, h.1) (sym w.2.1.0) in
       let r = R.this w.0 w.1 w.2.0 (w.2.1.0 ∙ t) in

@@ -11,7 +11,7 @@ use lib.Dec.{eqb, lit≤, lit<}
 use Rattle.hmac.proofs.Sameness.{eq_same}
 use Rattle.paper.specs.Limits.{longest_id, key_bytes, handle_step, most_sessions, most_objects, id_width, bytes_from}
 use Rattle.paper.specs.Bytes.{part, enc2, enc4, padded_text, zeros_of, over, all_within}
-use Rattle.paper.specs.Form.{Rec, ◌==◌, ◌=<◌, Fact}
+use Rattle.paper.specs.Form.{Rec, ◌equals◌, ◌=<◌, Fact}
 use Rattle.paper.specs.Records.{kind, SESSION, COUNTER, OPEN, CLOSED, own, session, state, client_id, next_session, mac_counter, insert, handle}
 use Rattle.paper.specs.Table.{obeys_table, fields_of}
 use Rattle.paper.specs.Sound.{has_handle}
@@ -129,7 +129,7 @@ module _ (rs : List Rec) (F : Facts rs) where
   low : (x : Rec) → Memᴰ x rs → Fact (has_handle x) → own x ≡ N * handle_step → ⊥
   low x i a e =
       let c = counter_there rs F in
-      cases (kind x == SESSION)
+      cases (kind x equals SESSION)
       (λ k. let g = (F.related (counter rs) c.0 x i).below_counter c.1 k in omega arith)
       (λ k.
       let o = (F.alone x i).object_carries (omega arith, a.1) in
@@ -143,7 +143,7 @@ module _ (rs : List Rec) (F : Facts rs) where
     F1 : Facts (map counted rs)
     unfolding counted
     F1 =
-        softly (λ r. kind r == COUNTER) (λ r. over 4 (enc4 (next_session r + 1)) r) rs F
+        softly (λ r. kind r equals COUNTER) (λ r. over 4 (enc4 (next_session r + 1)) r) rs F
         (record {
           no_key = λ x i p k. omega arith;
           kin = λ x i p. kin_onward x (F.alone x i) p;
@@ -154,17 +154,17 @@ module _ (rs : List Rec) (F : Facts rs) where
     kin : (x : Rec) → Memᴰ x rs → Kin x (counted x)
     unfolding counted
     kin x i =
-        only-is (Kin x) (λ r. kind r == COUNTER) (λ r. over 4 (enc4 (next_session r + 1)) r) x (λ k. kin_onward x (F.alone x i) k)
+        only-is (Kin x) (λ r. kind r equals COUNTER) (λ r. over 4 (enc4 (next_session r + 1)) r) x (λ k. kin_onward x (F.alone x i) k)
         (λ n. kin_same x x refl)
 
     same : (x : Rec) → (kind x ≡ COUNTER → ⊥) → counted x ≡ x
     unfolding counted
-    same x n = only_out (λ r. kind r == COUNTER) (λ r. over 4 (enc4 (next_session r + 1)) r) x n
+    same x n = only_out (λ r. kind r equals COUNTER) (λ r. over 4 (enc4 (next_session r + 1)) r) x n
 
     next : (x : Rec) → Memᴰ x rs → kind x ≡ COUNTER → next_session (counted x) ≡ N + 1
     unfolding counted
     next x i k =
-        only-is (λ y. next_session y ≡ N + 1) (λ r. kind r == COUNTER) (λ r. over 4 (enc4 (next_session r + 1)) r) x
+        only-is (λ y. next_session y ≡ N + 1) (λ r. kind r equals COUNTER) (λ r. over 4 (enc4 (next_session r + 1)) r) x
         (λ j. next_onward x (F.alone x i) j ∙ ap (λ (n : ℕ). n + 1) (is-counter x i j)) (λ n. absurd (n k))
 
     back : (y : Rec) → Memᴰ y (map counted rs) → (kind y ≡ COUNTER → ⊥) → Memᴰ y rs
@@ -181,7 +181,7 @@ module _ (rs : List Rec) (F : Facts rs) where
         (record {
           sort = (omega arith, omega arith);
           alone = alone-session n b k (omega arith) (omega arith) (omega arith) (omega arith) (λ q. absurd (omega arith));
-          fresh = λ x i a e. cases (kind x == COUNTER) (λ j. let h = a.1 in omega arith) (λ j. low x (back x i j) a (e ∙ o));
+          fresh = λ x i a e. cases (kind x equals COUNTER) (λ j. let h = a.1 in omega arith) (λ j. low x (back x i j) a (e ∙ o));
           named = λ x i a c. let d = c.0 in absurd (omega arith);
           client = λ x i a c. free x (back x i (λ j. omega arith)) a;
           held = λ x i a c. absurd (omega arith);

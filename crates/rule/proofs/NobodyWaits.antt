@@ -7,7 +7,7 @@ use Prim.Native.Nat.{ℕ, ◌≤◌}
 use Prim.Native.String.{String}
 use native.Mathlib.Omega.{arith}
 use lib.Dec.{lit≤}
-use Rattle.paper.specs.Form.{Rec, Form, ◌==◌, no, ◌and◌, some, test, Fact, only, keep}
+use Rattle.paper.specs.Form.{Rec, Form, ◌equals◌, no, ◌and◌, some, test, Fact, only, keep}
 use Rattle.paper.specs.Records.{records, kind, SESSION, KEY, OPEN, CLOSED, own, session, state, bears, block, is, at, session_of}
 use Rattle.paper.specs.Sound.{sound}
 use Rattle.paper.specs.Calls.{subject, post_in, post_form}
@@ -36,7 +36,7 @@ keep-keep φ ψ (x ∷ xs) h =
     dropped n = choose (λ l. l ≡ keep φ xs) (φ x) (x ∷ keep φ xs) (keep φ xs) (λ q. absurd (n q)) (λ q. refl)
 
 abbrev shown : ℕ → List Rec → Rec → Form
-shown t rs r = no (session r == 0) and no (another's t rs r)
+shown t rs r = no (session r equals 0) and no (another's t rs r)
 
 -- the session's own records are shown
 block-aside : (t : ℕ) (rs : List Rec) → 1 ≤ t → block t (aside t rs) ≡ block t rs
@@ -63,7 +63,7 @@ module _ (t : ℕ) (rs rs' : List Rec) (F : Facts rs) (F' : Facts rs') (e : asid
       crosses y m q mz iz cz p =
           (mem_keep (shown t rs') rs' (subst (λ (l : List Rec). Memᴰ y l) e (keep_mem (shown t rs) rs m ((λ n. omega arith), λ a. open_not a.1)))).0
         where
-          open_not : Fact (some rs (λ v. kind v == SESSION and state v == OPEN and own v == session y)) → ⊥
+          open_not : Fact (some rs (λ v. kind v equals SESSION and state v equals OPEN and own v equals session y)) → ⊥
           open_not v =
               let kv = v.2.0 in
               let kz = iz.0 in

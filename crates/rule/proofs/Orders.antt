@@ -8,7 +8,7 @@ use Prim.Native.String.{String}
 use native.Mathlib.Omega.{arith}
 use lib.Dec.{lit≤}
 use Rattle.paper.specs.Bytes.{all_within}
-use Rattle.paper.specs.Form.{Rec, ◌==◌, ◌or◌, some, Fact}
+use Rattle.paper.specs.Form.{Rec, ◌equals◌, ◌or◌, some, Fact}
 use Rattle.paper.specs.Records.{records, SESSION, state, session_of, at, block}
 use Rattle.paper.specs.Sound.{sound}
 use Rattle.paper.specs.Closing.{held}
@@ -263,7 +263,7 @@ module _ (s : List ℕ) (p q : Call) (X : Apart s (subject p.bytes) (subject q.b
       k = (post_in p.bytes p.chip).key
 
       seen : wp k → Sight (look k rs) (look k (outcome b B rs))
-      seen w = cases (k == 0)
+      seen w = cases (k equals 0)
           (λ z. sight rs a b wp wq two B t_b k (λ e. far z e) (λ h. held_real rs F b k h z))
           (λ n. sight rs a b wp wq two B t_b k (X.far_a k (real_asks p k n w)) (λ h. X.not_both k (inr (real_asks p k n w)) (inl h)))
         where

@@ -8,7 +8,7 @@ use Prim.Native.String.{String}
 use native.Mathlib.Omega.{arith}
 use Rattle.paper.specs.Limits.{most_objects}
 use Rattle.paper.specs.Bytes.{all_within}
-use Rattle.paper.specs.Form.{Rec, ◌==◌, ◌=<◌, say, no, ◌and◌, some, Fact}
+use Rattle.paper.specs.Form.{Rec, ◌equals◌, ◌=<◌, say, no, ◌and◌, some, Fact}
 use Rattle.paper.specs.Records.{by_value, kind, SESSION, KEY, PENDING, own, session, parent, session_of, at, block, state, key_management, next_object, mac_counter, key_limit, is_stale}
 use Rattle.paper.specs.Closing.{held}
 use Rattle.paper.specs.Calls.{subject, post_in}
@@ -36,11 +36,11 @@ look_there k rs e = (both (is_target k rs)).0 e
 
 look_managed : (k : ℕ) (rs : List Rec) → (look k rs).managed ≡ true → key_management (home k rs) ≡ 1
 unfolding look
-look_managed k rs e = (both (key_management (home k rs) == 1)).0 e
+look_managed k rs e = (both (key_management (home k rs) equals 1)).0 e
 
 look_pinned : (k : ℕ) (rs : List Rec) → (look k rs).pinned ≡ true → parent (target k rs) ≡ 0 → ⊥
 unfolding look
-look_pinned k rs e = (both (no (parent (target k rs) == 0))).0 e
+look_pinned k rs e = (both (no (parent (target k rs) equals 0))).0 e
 
 module _ (c chip : List ℕ) (bytes : all_within 0 255 c ≡ true) (rs : List Rec) (F : Facts rs) (O : Fact (is_open (subject c) rs)) where
   abbrev s : ℕ
@@ -84,7 +84,7 @@ module _ (c chip : List ℕ) (bytes : all_within 0 255 c ≡ true) (rs : List Re
     not_stale x i a e =
         let r = within_of 0 1 (is_stale x) (tabled_field 2 PENDING x a (F.alone x i).tabled) in
         let t = ((F.alone x i).target_unless_stale a).0 in
-        holds (is_stale x == 0) (λ n. a_handle (sym e ∙ t (omega arith)))
+        holds (is_stale x equals 0) (λ n. a_handle (sym e ∙ t (omega arith)))
 
   pub post_kept : (op : ℕ) (name : String) → 50 ≤ op → op ≤ 51 → Clear (post_faults op name c chip (post_in c chip) (by_value ses) blk l) → (h : ℕ) (t : List ℕ)
       → Stays (perform s (inside h t (advance s 1 1) (just (pending_record op s k (by_value ses)))) rs)
@@ -92,7 +92,7 @@ module _ (c chip : List ℕ) (bytes : all_within 0 255 c ≡ true) (rs : List Re
       let T = look_there k rs (holds (say l.there) (search)) in
       let M = look_managed k rs (holds (say l.managed) (search)) in
       let once : Fact (some blk (held s k)) → ⊥ = search in
-      let pin : Fact (op == 51 and no (say l.pinned)) → ⊥ = search in
+      let pin : Fact (op equals 51 and no (say l.pinned)) → ⊥ = search in
       let R = ready s rs F O 1 (holds (next_object ses =< most_objects) (search)) (holds (mac_counter ses + 1 =< key_limit ses) (search)) in
       let r = numbered s (next_object ses) 1 rs F R in
       let a = small s rs F O (next_object ses) r.1 in

@@ -10,7 +10,7 @@ use lib.Dec.{leb}
 use borrow.Author.Tests.{le-leb}
 use Rattle.hmac.specs.Same.{same}
 use Rattle.hmac.proofs.Sameness.{same_eq, eq_same}
-use Rattle.paper.specs.Form.{Rec, Form, ◌==◌, say, no, some, test, Fact, exists, keep}
+use Rattle.paper.specs.Form.{Rec, Form, ◌equals◌, say, no, some, test, Fact, exists, keep}
 use Rattle.paper.specs.Records.{kind, SESSION, PENDING, COUNTER, is, at, zeros, is_free}
 use Rattle.paper.specs.Sessions.{counter}
 use Rattle.paper.specs.Act.{placed, fits_in}
@@ -118,7 +118,7 @@ module _ (xs ys : List Rec) (E : Even xs ys) (F : Facts xs) (G : Facts ys) where
 
   pub counter_even : counter xs ≡ counter ys
   counter_even =
-      let f = sought (λ r. kind r == COUNTER) xs F.counter in
-      let g = sought (λ r. kind r == COUNTER) ys G.counter in
+      let f = sought (λ r. kind r equals COUNTER) xs F.counter in
+      let g = sought (λ r. kind r equals COUNTER) ys G.counter in
       let j = f.1 in
       one-counter ys G (counter xs) (counter ys) (mem_even xs ys E (counter xs) f.0 (omega arith)) g.0 f.1 g.1

@@ -5,7 +5,7 @@ use mathlib.Core.List.{List, map}
 use mathlib.Core.Logic.{inl, inr}
 use Prim.Native.Nat.{ℕ, ◌≤◌}
 use native.Mathlib.Omega.{arith}
-use Rattle.paper.specs.Form.{Rec, Form, ◌==◌, no, ◌and◌, some, test, Fact, only}
+use Rattle.paper.specs.Form.{Rec, Form, ◌equals◌, no, ◌and◌, some, test, Fact, only}
 use Rattle.paper.specs.Records.{kind, PUK, POLICY, KEY, PENDING, own, session, parent, bears, operation, is_stale, path_set, zeros}
 use Rattle.paper.specs.Sound.{child, childless}
 use Rattle.paper.specs.Pin.{clear, the_key, pin_hit}
@@ -42,7 +42,7 @@ module _ (xs ys : List Rec) (E : Even xs ys) where
       (some_even xs ys E (λ x. such x and no (gone x)) (λ x. such x and no (gone' x)) (λ x. rw (e x)) (λ w. z w.0))
 
   pub child_even : (k : ℕ) → 1 ≤ k → (p : Rec) → test (child xs k p) ≡ test (child ys k p)
-  child_even k l p = some_same xs ys E (λ x. kind x == k and parent x == own p and session x == session p) (λ w. no_kind k l w.0)
+  child_even k l p = some_same xs ys E (λ x. kind x equals k and parent x equals own p and session x equals session p) (λ w. no_kind k l w.0)
 
   -- ---- keys removed and unlocked
   module _ (d u : Keys) where
@@ -58,14 +58,14 @@ module _ (xs ys : List Rec) (E : Even xs ys) where
         )
 
     unlocked_even : (r : Rec) → test (puk_unlocked u xs r) ≡ test (puk_unlocked u ys r)
-    unlocked_even r = ap (λ (b : Bool). test (kind r == PUK) && b)
+    unlocked_even r = ap (λ (b : Bool). test (kind r equals PUK) && b)
         (some_even xs ys E (over xs) (over ys) (λ p. rw (some_same xs ys E (under p) (λ w. no_kind KEY (omega arith) w.0.0))) (λ w. no_kind POLICY (omega arith) w.0))
       where
         under : Rec → Rec → Form
-        under p k = key_unlocked u k and parent k == own p and session k == session r
+        under p k = key_unlocked u k and parent k equals own p and session k equals session r
 
         over : List Rec → Rec → Form
-        over l p = kind p == POLICY and parent p == own r and session p == session r and some l (under p)
+        over l p = kind p equals POLICY and parent p equals own r and session p equals session r and some l (under p)
 
     pub effect_even : (r : Rec) → effect d u xs r ≡ effect d u ys r
     unfolding effect
@@ -79,9 +79,9 @@ module _ (xs ys : List Rec) (E : Even xs ys) where
   pub unfit_even : test (unfit xs) ≡ test (unfit ys)
   unfit_even =
       rw (
-        some_same xs ys E (λ r. kind r == KEY and path_set r == 0) (λ w. no_kind KEY (omega arith) w.0),
+        some_same xs ys E (λ r. kind r equals KEY and path_set r equals 0) (λ w. no_kind KEY (omega arith) w.0),
         some_even xs ys E (childless xs) (childless ys) (λ y. rw (child_even POLICY (omega arith) y, child_even KEY (omega arith) y)) bare,
-        some_same xs ys E (λ r. kind r == PENDING and is_stale r == 1) (λ w. no_kind PENDING (omega arith) w.0),
+        some_same xs ys E (λ r. kind r equals PENDING and is_stale r equals 1) (λ w. no_kind PENDING (omega arith) w.0),
       )
     where
       bare : Fact (childless xs zeros) → ⊥
@@ -90,11 +90,11 @@ module _ (xs ys : List Rec) (E : Even xs ys) where
 
   holds_even : (s op : ℕ) → holds s op xs ≡ holds s op ys
   unfolding holds
-  holds_even s op = fun_ext (λ k. some_same xs ys E (λ q. held s k q and operation q == op) (λ w. no_kind PENDING (omega arith) w.0.0))
+  holds_even s op = fun_ext (λ k. some_same xs ys E (λ q. held s k q and operation q equals op) (λ w. no_kind PENDING (omega arith) w.0.0))
 
   sealed_even : (s : ℕ) (r : Rec) → sealed s xs r ≡ sealed s ys r
   unfolding sealed
-  sealed_even s r = rw (some_same xs ys E (λ x. kind x == KEY and session x == s) (λ w. no_kind KEY (omega arith) w.0))
+  sealed_even s r = rw (some_same xs ys E (λ x. kind x equals KEY and session x equals s) (λ w. no_kind KEY (omega arith) w.0))
 
   closing_even : (s : ℕ) (r : Rec) → closing s xs r ≡ closing s ys r
   unfolding closing
@@ -113,13 +113,13 @@ module _ (xs ys : List Rec) (E : Even xs ys) where
 
   pub changed_even : (x pol : Rec) (v : List ℕ) → Even (map (changed x pol v xs) xs) (map (changed x pol v ys) ys)
   unfolding changed
-  changed_even x pol v = map_even xs ys E (changed x pol v xs) (changed x pol v ys) (λ r. only_same (marks xs) (marks ys) stale (news r) (rw (some_same xs ys E (λ y. given_pin x pol y and own y == parent (news r)) (λ w. keyless w.0)))) still
+  changed_even x pol v = map_even xs ys E (changed x pol v xs) (changed x pol v ys) (λ r. only_same (marks xs) (marks ys) stale (news r) (rw (some_same xs ys E (λ y. given_pin x pol y and own y equals parent (news r)) (λ w. keyless w.0)))) still
     where
       news : Rec → Rec
       news r = pin_hit x (only (given_pin x pol) (new_pin v) r)
 
       marks : List Rec → Rec → Form
-      marks l q = kind q == PENDING and some l (λ y. given_pin x pol y and own y == parent q)
+      marks l q = kind q equals PENDING and some l (λ y. given_pin x pol y and own y equals parent q)
 
       keyless : Fact (given_pin x pol zeros) → ⊥
       keyless (inl w) = no_kind KEY (omega arith) w.0

@@ -8,7 +8,7 @@ use Prim.Native.Nat.{ℕ, ◌+◌, ◌≤◌}
 use native.Mathlib.Omega.{arith}
 use Rattle.sha256.specs.Sha256.{SHA256}
 use Rattle.paper.specs.Bytes.{all_within}
-use Rattle.paper.specs.Form.{Rec, ◌==◌, ◌=<◌, Fact, only}
+use Rattle.paper.specs.Form.{Rec, ◌equals◌, ◌=<◌, Fact, only}
 use Rattle.paper.specs.Records.{SESSION, POLICY, KEY, at, block, is, mac_counter, key_limit, path_set, zeros}
 use Rattle.paper.specs.Sound.{child}
 use Rattle.paper.specs.Calls.{subject, post_in, path_in}
@@ -53,7 +53,7 @@ module _ (c chip : List ℕ) (bytes : all_within 0 255 c ≡ true) (rs : List Re
         counts = λ x i k e. rw (me s rs F O x i k e) left;
         paths = λ y i k e.
             let r = within_of 0 1 (path_set y) (tabled_field 1 KEY y k (F.alone y i).tabled) in
-            holds (path_set y == 1) (λ z. n (inl (y, block_in s rs i e, (k, omega arith))));
+            holds (path_set y equals 1) (λ z. n (inl (y, block_in s rs i e, (k, omega arith))));
         puks = λ y i k e.
             let w = holds (child blk POLICY y) (λ z. n (inr (inl (y, block_in s rs i e, inl (k, z))))) in
             (w.0, (block_out s rs w.1).0, w.2);

@@ -7,7 +7,7 @@ use mathlib.Core.Logic.{◌⊎◌, inl, inr}
 use Prim.Native.Nat.{ℕ, ◌*◌, ◌≤◌, ◌<◌}
 use native.Mathlib.Omega.{arith}
 use lib.ListN.{length}
-use Rattle.paper.specs.Form.{Rec, Form, ◌==◌, ◌and◌, ◌or◌, some, Fact}
+use Rattle.paper.specs.Form.{Rec, Form, ◌equals◌, ◌and◌, ◌or◌, some, Fact}
 use Rattle.paper.specs.Records.{kind, SESSION, PUK, KEY, PENDING, COUNTER, OPEN, session, state, is_stale, is, next_session, zeros, insert}
 use Rattle.paper.specs.Closing.{held, stale, Keys, effect, pending_on}
 use Rattle.paper.specs.Pin.{clear}
@@ -20,10 +20,10 @@ use Rattle.laws.proofs.Stores.{Whole}
 
 -- a stale pending of session a; session a, open
 abbrev pub marked : ℕ → Rec → Form
-marked a q = kind q == PENDING and session q == a and is_stale q == 1
+marked a q = kind q equals PENDING and session q equals a and is_stale q equals 1
 
 abbrev pub live : ℕ → Rec → Form
-live a r = is SESSION a a r and state r == OPEN
+live a r = is SESSION a a r and state r equals OPEN
 
 -- no close of session a can succeed
 pub data Lost (a : ℕ) (rs : List Rec) : Type 0 where

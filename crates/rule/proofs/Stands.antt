@@ -10,7 +10,7 @@ use native.Mathlib.Omega.{arith}
 use lib.Dec.{leb}
 use borrow.Author.Tests.{leb-true}
 use Rattle.paper.specs.Bytes.{byte}
-use Rattle.paper.specs.Form.{Rec, ◌==◌, ◌and◌, ◌or◌, some, test, Fact}
+use Rattle.paper.specs.Form.{Rec, ◌equals◌, ◌and◌, ◌or◌, some, test, Fact}
 use Rattle.paper.specs.Records.{by_value, records, joined, kind, SESSION, PENDING, operation, block, at}
 use Rattle.paper.specs.Sound.{sound}
 use Rattle.paper.specs.Closing.{held, stale, closing, holds, pending_on}
@@ -69,15 +69,15 @@ module _ (rs : List Rec) (F : Facts rs) (whole : Whole rs) where
       let w = split (leb 50 (byte 1 q)) (leb (byte 1 q) 51) (tabled_field 1 PENDING q k (F.alone q m).tabled) in
       let a = leb-true 50 (byte 1 q) w.0 in
       let b = leb-true (byte 1 q) 51 w.1 in
-      cases (operation q == 50) (λ e. inl e) (λ n. inr (omega arith))
+      cases (operation q equals 50) (λ e. inl e) (λ n. inr (omega arith))
 
   held-one_way : (a k : ℕ) → Fact (some rs (held a k)) → (holds a 50 rs k ≡ true) ⊎ (holds a 51 rs k ≡ true)
   unfolding holds
   held-one_way a k (p, m, h) = go (two_ways p m h.0)
     where
-      go : (operation p ≡ 50) ⊎ (operation p ≡ 51) → (test (some rs (λ q. held a k q and operation q == 50)) ≡ true) ⊎ (test (some rs (λ q. held a k q and operation q == 51)) ≡ true)
-      go (inl e) = inl ((both (some rs (λ q. held a k q and operation q == 50))).1 (p, m, (h, e)))
-      go (inr e) = inr ((both (some rs (λ q. held a k q and operation q == 51))).1 (p, m, (h, e)))
+      go : (operation p ≡ 50) ⊎ (operation p ≡ 51) → (test (some rs (λ q. held a k q and operation q equals 50)) ≡ true) ⊎ (test (some rs (λ q. held a k q and operation q equals 51)) ≡ true)
+      go (inl e) = inl ((both (some rs (λ q. held a k q and operation q equals 50))).1 (p, m, (h, e)))
+      go (inr e) = inr ((both (some rs (λ q. held a k q and operation q equals 51))).1 (p, m, (h, e)))
 
   marks_other : (a b k : ℕ) → (a ≡ b → ⊥) → Fact (some rs (held a k)) → Fact (some rs (held b k)) → Lost b (map (closing a rs) rs)
   marks_other a b k ne ha (q, m, h) =

@@ -7,7 +7,7 @@ use Prim.Native.Nat.{ℕ, ◌+◌, ◌≤◌, ◌<◌}
 use native.Mathlib.Omega.{arith}
 use lib.ListN.{length}
 use Rattle.paper.specs.Bytes.{over}
-use Rattle.paper.specs.Form.{Rec, Form, ◌==◌, ◌=<◌, no, ◌and◌, ◌or◌, some, test, Fact}
+use Rattle.paper.specs.Form.{Rec, Form, ◌equals◌, ◌=<◌, no, ◌and◌, ◌or◌, some, test, Fact}
 use Rattle.paper.specs.Records.{kind, SESSION, POLICY, KEY, PENDING, own, session, parent, state, zeros}
 use Rattle.paper.specs.Closing.{Keys, lost, key_goes, policy_goes, goes, key_unlocked, puk_unlocked, pending_on, stale, effect}
 use Rattle.paper.specs.Pin.{clear}
@@ -24,7 +24,7 @@ use Rattle.rule.proofs.LocalEffect.{effect_free}
 
 pub clear-clear : (i : ℕ) (x : Rec) → clear i (clear i x) ≡ clear i x
 unfolding clear
-clear-clear i x = list_same (over i (0 ∷ []) x) (over i (0 ∷ []) (over i (0 ∷ []) x)) (length_over i (0 ∷ []) (over i (0 ∷ []) x)) (λ j l. cases (j == i)
+clear-clear i x = list_same (over i (0 ∷ []) x) (over i (0 ∷ []) (over i (0 ∷ []) x)) (length_over i (0 ∷ []) (over i (0 ∷ []) x)) (λ j l. cases (j equals i)
     (λ e. let w = length_over i (0 ∷ []) x in rw e (byte-over i 0 (over i (0 ∷ []) x) (omega arith) ∙ sym (byte-over i 0 x (omega arith))))
     (λ n. byte-over_other i j (0 ∷ []) (over i (0 ∷ []) x) (far j n)))
   where

@@ -9,7 +9,7 @@ use native.Mathlib.Omega.{arith}
 use lib.Dec.{leb, lit≤}
 use borrow.Author.Tests.{leb-true}
 use Rattle.paper.specs.Bytes.{byte}
-use Rattle.paper.specs.Form.{Rec, Form, ◌==◌, ◌and◌, some, Fact}
+use Rattle.paper.specs.Form.{Rec, Form, ◌equals◌, ◌and◌, some, Fact}
 use Rattle.paper.specs.Records.{kind, SESSION, KEY, PENDING, CLOSED, own, session, parent, state, is_stale, operation, session_of, is, at, bears, block, zeros}
 use Rattle.paper.specs.Sound.{has_handle}
 use Rattle.paper.specs.Closing.{held, holds, closing, goes, key_goes}
@@ -41,7 +41,7 @@ use Rattle.rule.proofs.ActsAsEdits.{edit_of, new_of, Closing, outcome, edit_away
 module _ (rs : List Rec) (F : Facts rs) where
   pub holds-held : (s op k : ℕ) → holds s op rs k ≡ true → Fact (some rs (held s k))
   unfolding holds
-  holds-held s op k e = let w = (both (some rs (λ q. held s k q and operation q == op))).0 e in (w.0, w.1, w.2.0)
+  holds-held s op k e = let w = (both (some rs (λ q. held s k q and operation q equals op))).0 e in (w.0, w.1, w.2.0)
 
   pub held_real : (s k : ℕ) → Fact (some rs (held s k)) → k ≡ 0 → ⊥
   held_real s k (q, m, h) z = let i = ((F.alone q m).target_unless_stale h.0).1 (h.1.1.1 ∙ z) in let j = h.1.1.0 in omega arith
@@ -56,7 +56,7 @@ module _ (rs : List Rec) (F : Facts rs) where
       go : Fact (some rs (held s k)) → ⊥
       go (q, m, h) =
           let y = opened t rs o in
-          let n : Fact (parent q == 0) → ⊥ = λ z. held_real s k (q, m, h) (sym h.1.1.1 ∙ z) in
+          let n : Fact (parent q equals 0) → ⊥ = λ z. held_real s k (q, m, h) (sym h.1.1.1 ∙ z) in
           let c = (F.related (at SESSION t t rs) y.there q m).target_managed y.kind= h.0 n (y.own= ∙ sym i ∙ ap session_of (sym h.1.1.1)) in
           let a = c.0 in
           let b = y.state= in
@@ -70,13 +70,13 @@ module _ (rs : List Rec) (F : Facts rs) where
 
   -- sessions and objects do not bear 0
   pub borne : (x : Rec) → Memᴰ x rs → Fact (has_handle x) → session x ≡ 0 → ⊥
-  borne x m (lo, hi) z = cases (kind x == SESSION)
+  borne x m (lo, hi) z = cases (kind x equals SESSION)
       (λ k. let s = (seat rs F x m k).least in let o = session-own x m k in omega arith) (λ n. let s = (object-home rs F x m (omega arith, hi)).1.least in omega arith)
 
   pub stale_or_not : (q : Rec) → Memᴰ q rs → kind q ≡ PENDING → (is_stale q ≡ 0) ⊎ (parent q ≡ 0)
   stale_or_not q m k =
       let b = leb-true (byte 2 q) 1 (split (leb 0 (byte 2 q)) (leb (byte 2 q) 1) (tabled_field 2 PENDING q k (F.alone q m).tabled)).1 in
-      cases (is_stale q == 1) (λ e. inr (((F.alone q m).target_unless_stale k).0 e)) (λ n. inl (omega arith))
+      cases (is_stale q equals 1) (λ e. inr (((F.alone q m).target_unless_stale k).0 e)) (λ n. inl (omega arith))
 
 -- ---- two parties
 

@@ -3,7 +3,7 @@
 -- neither order meets status 2. Proved in proofs/Orders.antt.
 use Rattle.std.specs.Prelude.{◌≡◌, true, List, [], ◌∷◌, ◌⊎◌, ℕ}
 use Rattle.paper.specs.Bytes.{all_within}
-use Rattle.paper.specs.Form.{Rec, Form, ◌==◌, no, ◌and◌, ◌or◌, some, Fact}
+use Rattle.paper.specs.Form.{Rec, Form, ◌equals◌, no, ◌and◌, ◌or◌, some, Fact}
 use Rattle.paper.specs.Records.{records, kind, KEY, own, session, session_of}
 use Rattle.paper.specs.Sound.{sound, is_object, closed}
 use Rattle.paper.specs.Calls.{method, subject, is_session_call, policy_in, policy_form, key_in, key_form, path_in, path_form, post_in, post_form}
@@ -21,23 +21,23 @@ pub record CallOn (a : ℕ) (q : Call) : Type 0 where
 -- A decoded 50 or 51 asks for the key that it names.
 abbrev pub asks : Call → ℕ → Form
 asks q k =
-    (method q.bytes == 50 or method q.bytes == 51) and post_form q.bytes q.chip
-    and (post_in q.bytes q.chip).key == k and no (k == 0)
+    (method q.bytes equals 50 or method q.bytes equals 51) and post_form q.bytes q.chip
+    and (post_in q.bytes q.chip).key equals k and no (k equals 0)
 
 -- The PUK handle of 9, the policy handle of 10, the key handle of 12, 50 and 51. 0 names nothing, and so does a malformed call.
 abbrev pub names : Call → ℕ → Form
 names q h =
-    (method q.bytes == 9 and policy_form q.bytes q.chip and (policy_in q.bytes).puk == h and no (h == 0))
-    or (method q.bytes == 10 and key_form q.bytes q.chip and (key_in q.bytes q.chip).policy == h and no (h == 0))
-    or (method q.bytes == 12 and path_form q.bytes q.chip and (path_in q.bytes).key == h and no (h == 0))
+    (method q.bytes equals 9 and policy_form q.bytes q.chip and (policy_in q.bytes).puk equals h and no (h equals 0))
+    or (method q.bytes equals 10 and key_form q.bytes q.chip and (key_in q.bytes q.chip).policy equals h and no (h equals 0))
+    or (method q.bytes equals 12 and path_form q.bytes q.chip and (path_in q.bytes).key equals h and no (h equals 0))
     or asks q h
 
 -- An object of the session; a key of a closed session.
 abbrev pub object_of : ℕ → ℕ → List Rec → Form
-object_of a h rs = some rs (λ x. is_object x and own x == h and session x == a)
+object_of a h rs = some rs (λ x. is_object x and own x equals h and session x equals a)
 
 abbrev pub closed_key : ℕ → List Rec → Form
-closed_key h rs = some rs (λ x. kind x == KEY and own x == h and some rs (λ y. closed y and own y == session x))
+closed_key h rs = some rs (λ x. kind x equals KEY and own x equals h and some rs (λ y. closed y and own y equals session x))
 
 abbrev pub NamesOnlyThose : ℕ → Call → List ℕ → Type 0
 NamesOnlyThose a q s = (h : ℕ) → Fact (names q h) → Fact (object_of a h (records s) or closed_key h (records s))

@@ -3,7 +3,7 @@ use mathlib.Core.Bool.{true, false, ◌&&◌, and-true}
 use mathlib.Core.Path.{◌≡◌}
 use borrow.Author.Tests.{ne_eqb}
 use Rattle.paper.specs.Bytes.{byte}
-use Rattle.paper.specs.Form.{Rec, test, ◌==◌, say, ◌and◌, ◌then◌}
+use Rattle.paper.specs.Form.{Rec, test, ◌equals◌, say, ◌and◌, ◌then◌}
 use Rattle.paper.specs.Records.{kind, KEY, path_set, certificate_digest}
 use Rattle.paper.specs.Table.{obeys_table, is_blank}
 use Rattle.paper.specs.Sound.{session_carries, object_carries, bare_key, pinned_key, puk_counts, mac_counts, lengths_rise, key_wiped, target_unless_stale, alone}
@@ -26,7 +26,7 @@ module _ (r : Rec) (o : obeys_table r ≡ true) (c : test (object_carries r) ≡
   pub of_policy_lem : byte 0 r ≡ 3 → test (alone r) ≡ test (lengths_rise r)
   of_policy_lem k = rw (o, c) (simp (k, and-true))
 
-  pub of_key : byte 0 r ≡ 4 → test (alone r) ≡ test (bare_key r) && (test (pinned_key r) && test (kind r == KEY and path_set r == 0 then say (is_blank (certificate_digest r))))
+  pub of_key : byte 0 r ≡ 4 → test (alone r) ≡ test (bare_key r) && (test (pinned_key r) && test (kind r equals KEY and path_set r equals 0 then say (is_blank (certificate_digest r))))
   of_key k = rw (o, c) (simp (k, and-true))
 
   pub of_pending : byte 0 r ≡ 5 → test (alone r) ≡ test (target_unless_stale r)

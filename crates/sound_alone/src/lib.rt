@@ -7,7 +7,7 @@ ghost use Rattle.std.specs.Prelude.{◌≡◌, ◌&&◌, ◌-◌, ◌≤◌, len
 ghost use Rattle.paper.specs.Table.{u8 as Byte, u16 as Two, u32 as Four, blank, text, ident, is_blank, printable, field_fits, fits, session_fields, puk_fields, policy_fields, key_fields, pending_fields, counter_fields, fields_of, obeys_table};
 ghost use Rattle.paper.specs.Limits.{key_bytes};
 ghost use Rattle.paper.specs.Bytes.{part};
-ghost use Rattle.paper.specs.Form.{test, ◌==◌, say, ◌and◌, ◌then◌};
+ghost use Rattle.paper.specs.Form.{test, ◌equals◌, say, ◌and◌, ◌then◌};
 ghost use Rattle.paper.specs.Records.{FREE, kind, state};
 ghost use Rattle.paper.specs.Sound.{session_carries, object_carries, bare_key, pinned_key, puk_counts, mac_counts, lengths_rise, target_unless_stale, alone};
 
@@ -281,7 +281,7 @@ fn lengths_rise(r: &[u8]) -> bool
 // 32 bytes of a record of kind k are 0 while its byte 1, the state or the path, is v: a closed session's SessionKey, and the digest of
 // a key without path.
 fn wiped_while(r: &[u8], k: u8, v: u8, from: usize) -> bool
-    ensures { result ≡ test (kind r.now == k and state r.now == v then say (is_blank (part from key_bytes r.now))) }
+    ensures { result ≡ test (kind r.now equals k and state r.now equals v then say (is_blank (part from key_bytes r.now))) }
 {
     if byte_at(r, KIND) != k {
         return true;

@@ -3,7 +3,7 @@
 #![tactic(auto)]
 
 ghost use Rattle.std.specs.Prelude.{◌≡◌};
-ghost use Rattle.paper.specs.Form.{test, each, ◌==◌, no, ◌then◌};
+ghost use Rattle.paper.specs.Form.{test, each, ◌equals◌, no, ◌then◌};
 ghost use Rattle.paper.specs.Records.{records, kind, parent, session};
 ghost use Rattle.paper.specs.Sound.{parentless, is_in, session_there, key_there, target_there, housed, childless, policies_used};
 ghost use Rattle.sound_kin.specs.Settled.{alike, met, settled};
@@ -30,7 +30,7 @@ fn session_there(s: &[u8], y: &[u8]) -> bool
 
 // A record of kind k that has a parent has one of kind `above`: a PIN policy a PUK, a key a PIN policy.
 fn parent_there(s: &[u8], y: &[u8], k: u8, above: u8) -> bool
-    ensures { result ≡ test (kind y.now == k then no (parentless y.now) then is_in (records s.now) above (parent y.now) (session y.now)) }
+    ensures { result ≡ test (kind y.now equals k then no (parentless y.now) then is_in (records s.now) above (parent y.now) (session y.now)) }
 {
     if byte_at(y, KIND) != k {
         return true;

@@ -5,7 +5,7 @@ use mathlib.Core.Path.{◌≡◌, refl, sym, ◌∙◌}
 use mathlib.Core.Logic.{inl, inr}
 use native.Mathlib.Omega.{arith}
 use borrow.Author.Tests.{ne_eqb}
-use Rattle.paper.specs.Form.{Rec, Form, ◌==◌, ◌and◌, test, Fact}
+use Rattle.paper.specs.Form.{Rec, Form, ◌equals◌, ◌and◌, test, Fact}
 use Rattle.paper.specs.Records.{kind, own, session, parent, operation, SESSION, POLICY, KEY, PENDING}
 use Rattle.paper.specs.Sound.{has_id, one_counter, handles_differ, ids_differ, clients_differ, one_pending, distinct, is_object, related, target_pinned, below_counter}
 use Rattle.paper.proofs.Forms.{both, cases, contrary}
@@ -40,7 +40,7 @@ module _ (x y : Rec) where
   pub unconcerned : test (concerned x) ≡ false → test (related x y) ≡ true
   unconcerned e =
       let n = not_fact (concerned x) e in
-      cases (kind x == KEY)
+      cases (kind x equals KEY)
       (λ k. of_key k ∙ (both (target_pinned x y)).1 (λ l q p o z. n (inr (inr (inl (k, z))))))
       (λ k. of_counter (λ l. n (inl l)) (λ l. n (inr (inl l))) k ∙ (both (below_counter x y)).1 (λ l. absurd (n (inr (inr (inr l))))))
 

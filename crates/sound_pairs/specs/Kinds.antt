@@ -1,6 +1,6 @@
 -- The clauses about one record and another, sorted by the first one's kind: of a session, of a PIN policy, of a key, of the counter.
 -- No other record says anything of another, and neither does a key that has a policy.
-use Rattle.paper.specs.Form.{Rec, Form, ◌==◌, ◌and◌, ◌or◌}
+use Rattle.paper.specs.Form.{Rec, Form, ◌equals◌, ◌and◌, ◌or◌}
 use Rattle.paper.specs.Records.{kind, SESSION, POLICY, KEY, COUNTER}
 use Rattle.paper.specs.Sound.{parentless, below_next, puk_for_protection, key_counts, paths_set, pending_open, target_managed}
 
@@ -11,4 +11,4 @@ abbrev pub of_policy : Rec → Rec → Form
 of_policy x y = puk_for_protection x y and key_counts x y
 
 abbrev pub concerned : Rec → Form
-concerned x = kind x == SESSION or kind x == POLICY or (kind x == KEY and parentless x) or kind x == COUNTER
+concerned x = kind x equals SESSION or kind x equals POLICY or (kind x equals KEY and parentless x) or kind x equals COUNTER

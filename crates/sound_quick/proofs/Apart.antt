@@ -13,7 +13,7 @@ use lib.ListN.{length}
 use Rattle.hmac.proofs.Sameness.{same_eq}
 use Rattle.paper.specs.Limits.{id_width}
 use Rattle.paper.specs.Bytes.{part}
-use Rattle.paper.specs.Form.{Rec, ◌==◌, Fact, Pairs}
+use Rattle.paper.specs.Form.{Rec, ◌equals◌, Fact, Pairs}
 use Rattle.paper.specs.Records.{kind, SESSION, PENDING, COUNTER, own, session, parent}
 use Rattle.paper.specs.Sound.{has_handle, has_id, parentless}
 use Rattle.paper.proofs.Forms.{contrary, both, cases}
@@ -77,7 +77,7 @@ module _ (r : Rec) where
   -- no handle is 0
   handle_more : Alone r → Fact (has_handle r) → own r ≡ 0 → ⊥
   handle_more A h e =
-      cases (kind r == SESSION)
+      cases (kind r equals SESSION)
       (λ k. let b : 65536 ≤ own r = (A.session_carries k).1.0 in omega arith)
       (λ k. let b : suc (session r) ≤ own r = (A.object_carries ((omega arith), h.1)).0 in omega arith)
 

@@ -11,7 +11,7 @@ use lib.Dec.{eqb}
 use lib.ListN.{length, get_or, take, drop, set, drop_of_length-le, length-replicate, length-set}
 use lib.Seq.{take-suc, drop-cons, set_at, length-take-le, append_snoc, take_all, take_at, drop-length, get_or-set_same, get_or-set_other}
 use Rattle.paper.specs.Bytes.{zeros_of}
-use Rattle.paper.specs.Form.{Rec, ◌==◌}
+use Rattle.paper.specs.Form.{Rec, ◌equals◌}
 use Rattle.paper.proofs.Forms.{contrary, cases}
 use Rattle.laws.proofs.Choice.{either}
 use Rattle.sound_quick.specs.Marks.{mark_of, occurs, repeated, differing, column}
@@ -67,7 +67,7 @@ unfolding occurs
 seen_more {t} {xs} S y =
     record {
       long = rw length-set S.long;
-      hit = λ x e. cases (x % 1021 == y % 1021)
+      hit = λ x e. cases (x % 1021 equals y % 1021)
           (λ q. rw q (get_or-set_same t (y % 1021) 1 0 (omega (arith, S.long))))
           (λ q. get_or-set_other t (y % 1021) (x % 1021) 1 0 q ∙ S.hit x (rw (ne_eqb y x (λ z. q (ap (λ (v : ℕ). v % 1021) (sym z)))) at e));
     }

@@ -4,7 +4,7 @@
 use Rattle.std.specs.Prelude.{Bool, true, false, not, ◌&&◌, ◌||◌, cond, List, [], ◌∷◌, ◌++◌, map, ℕ, ◌+◌, ◌-◌, ◌*◌, ◌%◌, eqb, leb, length, take}
 use Rattle.paper.specs.Limits.{most_records, id_width}
 use Rattle.paper.specs.Bytes.{byte, four, part, zeros_of}
-use Rattle.paper.specs.Form.{Rec, ◌==◌, test}
+use Rattle.paper.specs.Form.{Rec, ◌equals◌, test}
 use Rattle.paper.specs.Records.{kind, SESSION, PENDING, COUNTER, own, session, parent}
 use Rattle.paper.specs.Sound.{has_handle, has_id, parentless}
 
@@ -24,10 +24,10 @@ pending_mark r = cond (test (parentless r)) 0 (mixed (session r) (parent r) [])
 
 unfoldable pub name_mark : Rec → ℕ
 name_mark r =
-    cond (test (kind r == SESSION)) (mixed 0 0 (part 49 id_width r))
+    cond (test (kind r equals SESSION)) (mixed 0 0 (part 49 id_width r))
     (cond (test (has_id r)) (mixed (session r) 0 (part 16 id_width r))
-    (cond (test (kind r == PENDING)) (pending_mark r)
-    (cond (test (kind r == COUNTER)) 4294967295 0)))
+    (cond (test (kind r equals PENDING)) (pending_mark r)
+    (cond (test (kind r equals COUNTER)) 4294967295 0)))
 
 abbrev pub mark_of : Bool → Rec → ℕ
 mark_of true r = name_mark r

@@ -3,7 +3,7 @@
 -- p, the target's session t, a child k, and a key q under the same policy.
 use Rattle.paper.specs.Limits.{pin_width}
 use Rattle.paper.specs.Bytes.{part}
-use Rattle.paper.specs.Form.{Rec, Form, ◌==◌, say, no, ◌and◌, ◌then◌, Fact}
+use Rattle.paper.specs.Form.{Rec, Form, ◌equals◌, say, no, ◌and◌, ◌then◌, Fact}
 use Rattle.paper.specs.Records.{kind, SESSION, PUK, POLICY, KEY, PENDING, COUNTER, own, session, parent, is, session_of, grouping}
 use Rattle.paper.specs.Sound.{is_object, parentless, closed, related}
 use Rattle.hmac.specs.Same.{same}
@@ -11,11 +11,11 @@ use Rattle.std.specs.Prelude.{ℕ, ◌<◌, List, [], length, get_or}
 
 -- the session y, if it is closed, has the key k
 abbrev pub key_near : Rec → Rec → Form
-key_near k y = closed y then kind k == KEY and session k == own y
+key_near k y = closed y then kind k equals KEY and session k equals own y
 
 -- the session y stands below the counter c
 abbrev pub session_near : Rec → Rec → Rec → Form
-session_near c k y = kind y == SESSION then kind c == COUNTER and related c y and key_near k y
+session_near c k y = kind y equals SESSION then kind c equals COUNTER and related c y and key_near k y
 
 -- the object y is of the session x
 abbrev pub object_near : Rec → Rec → Form
@@ -24,24 +24,24 @@ object_near x y = is_object y then is SESSION (session y) (session y) x and rela
 -- the record y of one kind has, in a closed session x, the child k of another
 abbrev pub child_near : Rec → Rec → Rec → ℕ → ℕ → Form
 child_near x k y sort below =
-    kind y == sort then closed x then kind k == below and parent k == own y and session k == session y
+    kind y equals sort then closed x then kind k equals below and parent k equals own y and session k equals session y
 
 -- the PIN policy y has no PUK, or it is p
 abbrev pub puk_near : Rec → Rec → Form
-puk_near p y = kind y == POLICY then no (parentless y) then is PUK (parent y) (session y) p
+puk_near p y = kind y equals POLICY then no (parentless y) then is PUK (parent y) (session y) p
 
 -- if the policy p is a shared one, the key y has the PIN of q
 abbrev pub pin_near : Rec → Rec → Rec → Form
-pin_near p q y = grouping p == 1 then say (same (part 49 pin_width q) (part 49 pin_width y))
+pin_near p q y = grouping p equals 1 then say (same (part 49 pin_width q) (part 49 pin_width y))
 
 -- the key y has no policy, or it is p
 abbrev pub policy_near : Rec → Rec → Rec → Form
-policy_near p q y = kind y == KEY then no (parentless y) then is POLICY (parent y) (session y) p and related p y and pin_near p q y
+policy_near p q y = kind y equals KEY then no (parentless y) then is POLICY (parent y) (session y) p and related p y and pin_near p q y
 
 -- the pending y has no target, or it is p, of the session t
 abbrev pub target_near : Rec → Rec → Rec → Form
 target_near p t y =
-    kind y == PENDING then no (parentless y) then
+    kind y equals PENDING then no (parentless y) then
     is KEY (parent y) (session_of (parent y)) p and related p y
     and is SESSION (session_of (parent y)) (session_of (parent y)) t and related t y
 

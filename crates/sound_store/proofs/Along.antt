@@ -7,7 +7,7 @@ use native.Mathlib.Omega.{arith}
 use borrow.Author.Tests.{eq-eqb, ne_eqb, le-ltb, lt-ltb}
 use lib.ListN.{length, get_or, drop}
 use Rattle.paper.specs.Bytes.{byte, four}
-use Rattle.paper.specs.Form.{Rec, ◌==◌}
+use Rattle.paper.specs.Form.{Rec, ◌equals◌}
 use Rattle.paper.specs.Records.{records, own}
 use Rattle.store_records.specs.View.{index}
 use Rattle.store_records.proofs.Places.{some_index}
@@ -23,16 +23,16 @@ module _ (f : ℕ → Rec → List ℕ → List ℕ) (s : List ℕ) (i : ℕ) (p
   unfolding along
   along_end h = rw (records_end s i h)
 
-module _ (h : ℕ) (s : List ℕ) (i : ℕ) (e : index (λ r. own r == h) (records s) ≡ i) where
+module _ (h : ℕ) (s : List ℕ) (i : ℕ) (e : index (λ r. own r equals h) (records s) ≡ i) where
   pub place_found : i < length s / 256 → i ≡ place_of h (records s)
   place_found l =
       let m : i < length (records s) = omega (arith, length-records s) in
-      rw (some_index (λ r. own r == h) (records s), e, lt-ltb i (length (records s)) m)
+      rw (some_index (λ r. own r equals h) (records s), e, lt-ltb i (length (records s)) m)
 
   pub no_place : length s / 256 ≤ i → 0 ≡ place_of h (records s)
   no_place l =
       let m : length (records s) ≤ i = omega (arith, length-records s) in
-      rw (some_index (λ r. own r == h) (records s), e, le-ltb i (length (records s)) m)
+      rw (some_index (λ r. own r equals h) (records s), e, le-ltb i (length (records s)) m)
 
 -- what stands where the slot of a handle says
 module _ (rs : List Rec) (t : List ℕ) where

@@ -5,7 +5,7 @@ use mathlib.Core.Path.{◌≡◌, ◌∙◌, ap}
 use Prim.Native.Nat.{ℕ, ◌+◌, ◌/◌, ◌≤◌, ◌<◌}
 use native.Mathlib.Omega.{arith}
 use lib.ListN.{length, get_or}
-use Rattle.paper.specs.Form.{Rec, ◌==◌, test}
+use Rattle.paper.specs.Form.{Rec, ◌equals◌, test}
 use Rattle.sound_quick.specs.Near.{near}
 use Rattle.paper.specs.Records.{records}
 use Rattle.paper.proofs.Forms.{both, cases}
@@ -13,7 +13,7 @@ use Rattle.store_records.proofs.Views.{length-records}
 use Rattle.sound_store.specs.Shown.{sited_at, Shown}
 
 pub one_more : (T : ℕ → Bool) (i : ℕ) → ((j : ℕ) → j < i → T j ≡ true) → T i ≡ true → (j : ℕ) → j < i + 1 → T j ≡ true
-one_more T i all here j l = cases (j == i) (λ e. rw e here) (λ n. all j (omega arith))
+one_more T i all here j l = cases (j equals i) (λ e. rw e here) (λ n. all j (omega arith))
 
 pub shown : (s up over under : List ℕ) (m i : ℕ) → ((j : ℕ) → j < i → test (sited_at (records s) m up over under j) ≡ true) → length s / 256 ≤ i → Shown (records s)
 shown s up over under m i all h =

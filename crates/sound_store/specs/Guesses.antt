@@ -2,7 +2,7 @@
 use Rattle.std.specs.Prelude.{Bool, cond, List, [], ◌∷◌, ℕ, ◌+◌, ◌*◌, ◌/◌, ◌%◌, eqb, get_or, set}
 use Rattle.paper.specs.Limits.{handle_step}
 use Rattle.paper.specs.Bytes.{byte, four}
-use Rattle.paper.specs.Form.{Rec, ◌==◌, no, ◌and◌, ◌or◌, some, test}
+use Rattle.paper.specs.Form.{Rec, ◌equals◌, no, ◌and◌, ◌or◌, some, test}
 use Rattle.paper.specs.Records.{kind, POLICY, KEY, own}
 use Rattle.paper.specs.Sound.{parentless}
 use Rattle.store_records.specs.View.{index}
@@ -25,7 +25,7 @@ by_slot i r t = set t (slot_of (own r)) i
 
 -- the place of the first record with this handle, or 0
 abbrev pub place_of : ℕ → List Rec → ℕ
-place_of h rs = cond (test (some rs (λ r. own r == h))) (index (λ r. own r == h) rs) 0
+place_of h rs = cond (test (some rs (λ r. own r equals h))) (index (λ r. own r equals h) rs) 0
 
 -- the same, at once where the handle's slot has it
 abbrev pub seat_of : List Rec → List ℕ → ℕ → ℕ
@@ -38,4 +38,4 @@ by_field rs t field i r p = set p i (seat_of rs t (four field r))
 -- for each session the place of its last key, for each PUK and each PIN policy that of its last child
 abbrev pub by_child : List ℕ → List ℕ → ℕ → Rec → List ℕ → List ℕ
 by_child up over i r p =
-    noted (noted p (byte i up) i (test (kind r == KEY))) (byte i over) i (test ((kind r == POLICY or kind r == KEY) and no (parentless r)))
+    noted (noted p (byte i up) i (test (kind r equals KEY))) (byte i over) i (test ((kind r equals POLICY or kind r equals KEY) and no (parentless r)))

@@ -7,7 +7,7 @@
 ghost use Rattle.std.specs.Prelude.{◌≡◌, ◌+◌, ◌*◌, ◌≤◌, [], length, get_or};
 ghost use Rattle.hmac.specs.Same.{same as same_bytes};
 ghost use Rattle.paper.specs.Bytes.{byte, two, four, part, string_at, behind, text_at, within, all_within};
-ghost use Rattle.paper.specs.Form.{test, ◌==◌, some, seek};
+ghost use Rattle.paper.specs.Form.{test, ◌equals◌, some, seek};
 ghost use Rattle.paper.specs.Records.{records, is, bears as bearsIt, is_free, at, session_of};
 ghost use Rattle.paper.specs.Closing.{held};
 ghost use Rattle.store_records.specs.View.{index};

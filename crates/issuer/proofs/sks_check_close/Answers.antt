@@ -4,7 +4,7 @@ use Prim.Native.Nat.{◌+◌}
 use lib.ListN.{length}
 use borrow.Author.Tests.{not-true, not-false}
 use Rattle.paper.specs.Bytes.{string}
-use Rattle.paper.specs.Form.{◌==◌, ◌=<◌, ◌and◌}
+use Rattle.paper.specs.Form.{◌equals◌, ◌=<◌, ◌and◌}
 use Rattle.paper.proofs.Forms.{both}
 use Rattle.issuer.proofs.Checks.{unready, of_other_length, compared}
 use Rattle.issuer.proofs.sks_check_close.Goals as goal
@@ -22,7 +22,7 @@ returns-then-attestation-ne-MAC_BYTES c =
 pub key_of-k-requires : goal.key_of-k-requires
 key_of-k-requires c =
     let a = c.args in
-    ((both (length a.key.now == 32 and a.counter + 1 =< 65535)).0 (sym c.is_ready.ensures ∙ not-false _ c.if-not-is_ready.false-raw)).0
+    ((both (length a.key.now equals 32 and a.counter + 1 =< 65535)).0 (sym c.is_ready.ensures ∙ not-false _ c.if-not-is_ready.false-raw)).0
 
 pub returns : goal.returns
 returns c =

@@ -2,7 +2,7 @@
 use mathlib.Core.Path.{◌∙◌, ap}
 use Prim.Native.Nat.{◌+◌}
 use Rattle.paper.specs.Bytes.{enc4, over}
-use Rattle.paper.specs.Form.{Rec, Form, ◌==◌}
+use Rattle.paper.specs.Form.{Rec, Form, ◌equals◌}
 use Rattle.paper.specs.Records.{kind, COUNTER, next_session}
 use Rattle.paper.specs.Sessions.{counted}
 use Rattle.store_records.proofs.Places.{told}
@@ -19,7 +19,7 @@ returns-then-is_kind c =
     let copy_of = c.copy_of in
     let one_more = c.one_more-r in
     let put = c.put in
-    let φ : Rec → Form = λ r. kind r == COUNTER in
+    let φ : Rec → Form = λ r. kind r equals COUNTER in
     let f : Rec → Rec = λ r. over 4 (enc4 (next_session r + 1)) r in
     edit_at φ f args.s.now _ _ _ (told φ record-at.ensures is-kind.ensures if1.true) (one_more.ensures ∙ ap f copy_of.ensures) put.ensures
 
@@ -29,6 +29,6 @@ returns-else-is_kind c =
     let args = c.args in
     let record-at = c.record_at in
     let is-kind = c.is_kind in
-    let φ : Rec → Form = λ r. kind r == COUNTER in
+    let φ : Rec → Form = λ r. kind r equals COUNTER in
     let f : Rec → Rec = λ r. over 4 (enc4 (next_session r + 1)) r in
     keep_at φ f args.s.now _ (told φ record-at.ensures is-kind.ensures c.if-is_kind.false)
