@@ -1,4 +1,4 @@
-/* The token's store as C functions: two, and a test. They stand in libtoken.a, which `rt staticlib token` makes. */
+/* The token's store as C functions: two, and a test. They stand in libtoken.a, which `make lib` makes. */
 #ifndef SKS_H
 #define SKS_H
 

@@ -1,6 +1,6 @@
 /*
  * The issuer's half as C functions: six that write a call with its MAC, and two that check an attestation. They stand in libissuer.a,
- * which `rt staticlib issuer` makes; it links into one program with libtoken.a. They keep nothing and allocate nothing.
+ * which `make issuer` makes; it links into one program with libtoken.a. They keep nothing and allocate nothing.
  */
 #ifndef SKS_ISSUER_H
 #define SKS_ISSUER_H

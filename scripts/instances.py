@@ -72,7 +72,7 @@ STORIES = [
 
 
 def write(name, title, story):
-    text = worked.told(title, story, calls_first=True).replace("scripts/worked.py", "scripts/instances.py").replace("Rattle·worked·specs.specs.Hex", "Rattle·worked.specs.Hex")
+    text = worked.told(title, story, calls_first=True).replace("scripts/worked.py", "scripts/instances.py")
     open(os.path.join(worked.CRATES, "instances", "proofs", name + ".antt"), "w", encoding="utf8").write(text)
 
 

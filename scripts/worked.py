@@ -119,10 +119,10 @@ STORIES = [
 HEAD = """-- {title} Each step: the records before, a call with its chip bytes, the reply, the records after.
 -- Written by scripts/worked.py.
 use mathlib.Core.Path.{{refl}}
-use mathlib.Core.List.{{List, [], _∷_}}
+use mathlib.Core.List.{{List, [], ◌∷◌}}
 use Prim.Native.String.{{String}}
 {uses}
-use Rattle·worked·specs.specs.Hex.{{row, answers}}
+use Rattle.worked.specs.Hex.{{row, answers}}
 """
 
 
@@ -140,9 +140,9 @@ def seen_through():
                 continue
             found = re.findall(r"^ *unfoldable pub (\S+) :", open(os.path.join(folder, f), encoding="utf8").read(), flags=re.M)
             if found:
-                uses.append(f"use Rattle·{crate}.specs.{f[:-5]}.{{{', '.join(found)}}}")
+                uses.append(f"use Rattle.{crate}.specs.{f[:-5]}.{{{', '.join(found)}}}")
                 names += found
-    uses.append("use Rattle·paper.specs.Form.{Rec}")
+    uses.append("use Rattle.paper.specs.Form.{Rec}")
     return "\n".join(uses), " ".join(names)
 
 
@@ -151,15 +151,15 @@ def told(title, story, calls_first=False):
     uses, names = seen_through()
     before, steps = story()
     text = HEAD.format(title=title, uses=uses)
-    calls = [f'\nabbrev pub call-{i} : String\ncall-{i} = "{call.hex()}"\n' for i, (_, (call, _), _, _) in enumerate(steps, 1)]
+    calls = [f'\nabbrev pub call_{i} : String\ncall_{i} = "{call.hex()}"\n' for i, (_, (call, _), _, _) in enumerate(steps, 1)]
     text += "".join(calls) if calls_first else ""
-    text += f"\nabbrev pub store-0 : List Rec\nstore-0 =\n{rows(before)}\n"
+    text += f"\nabbrev pub store_0 : List Rec\nstore_0 =\n{rows(before)}\n"
     for i, (what, (_, chip), reply, after) in enumerate(steps, 1):
         after = after + [sks.FREE] * (len(before) - len(after))
-        text += f"\n-- {what}\nabbrev pub store-{i} : List Rec\nstore-{i} =\n{rows(after)}\n"
+        text += f"\n-- {what}\nabbrev pub store_{i} : List Rec\nstore_{i} =\n{rows(after)}\n"
         text += "" if calls_first else calls[i - 1]
-        text += f'\npub step-{i} : answers store-{i - 1} call-{i} "{chip.hex()}" "{reply.hex()}" store-{i}\n'
-        text += f"unfolding {names}\nstep-{i} = refl\n"
+        text += f'\npub step_{i} : answers store_{i - 1} call_{i} "{chip.hex()}" "{reply.hex()}" store_{i}\n'
+        text += f"unfolding {names}\nstep_{i} = refl\n"
     return text
 
 

@@ -1,4 +1,4 @@
-//! Finds libissuer.a: in the folder that SKS_LIB names, or where `rt staticlib issuer` puts it.
+//! Finds libissuer.a: in the folder that SKS_LIB names, or where `make issuer` puts it.
 
 use std::env;
 use std::path::{Path, PathBuf};
@@ -14,7 +14,7 @@ fn main() {
         println!("cargo::rustc-link-lib=static=issuer");
     } else {
         println!(
-            "cargo::error=there is no {}; run `rt staticlib issuer` at the top of the repository, or set SKS_LIB to the folder that has libissuer.a",
+            "cargo::error=there is no {}; run `make issuer` at the top of the repository, or set SKS_LIB to the folder that has libissuer.a",
             library.display()
         );
     }

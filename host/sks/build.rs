@@ -1,4 +1,4 @@
-//! Finds libtoken.a: in the folder that SKS_LIB names, or where `rt staticlib token` puts it.
+//! Finds libtoken.a: in the folder that SKS_LIB names, or where `make lib` puts it.
 
 use std::env;
 use std::path::{Path, PathBuf};
@@ -14,7 +14,7 @@ fn main() {
         println!("cargo::rustc-link-lib=static=token");
     } else {
         println!(
-            "cargo::error=there is no {}; run `rt staticlib token` at the top of the repository, or set SKS_LIB to the folder that has libtoken.a",
+            "cargo::error=there is no {}; run `make lib` at the top of the repository, or set SKS_LIB to the folder that has libtoken.a",
             library.display()
         );
     }
