@@ -1,11 +1,7 @@
 -- `vectors::letters` has the length that its type says, by the law of repeated elements: a million of them are not counted one by one.
 use Rattle.std.proofs.Common.{ℕ, sym}
 use lib.ListN.{length-replicate}
-use Rattle.vectors.proofs.letters.Statement.{statement}
-use Rattle.vectors.proofs.letters.Tie as tie
+use Rattle.vectors.proofs.letters.Goals as goal
 
-returns : tie.Need-returns
+pub returns : goal.returns
 returns c = sym (length-replicate {A = ℕ} 1000000 97)
-
-pub letters_spec : {M : Type 1} → statement M
-letters_spec = tie.close (tie.spec returns)
