@@ -10,9 +10,11 @@
 
 #![tactic(auto)]
 
-ghost use Rattle.std.specs.Prelude.{◌≡◌, ◌≤◌, length};
+ghost use Rattle.std.specs.Prelude.{◌≡◌, ◌≤◌, length, IfOk};
 
-use libc::STDOUT_FILENO;
+use std::fs::File;
+use std::io::Read;
+use std::{fs, io};
 use store_records::{byte_at, four_at, same, string_at, two_at};
 
 // What stands in the reply before a call.
@@ -42,12 +44,12 @@ struct Tally {
     met: [u64; 256],
 }
 
-fn say(text: &[u8]) {
-    io::write_all(STDOUT_FILENO, text);
+fn say(rt: &impl Print, text: &[u8]) -> io::Result<()> {
+    rt.write_all(text)
 }
 
-fn say_number(n: u64) {
-    io::print_decimal(STDOUT_FILENO, n);
+fn say_number(rt: &impl Print, n: u64) -> io::Result<()> {
+    rt.print(n)
 }
 
 fn least(a: usize, b: usize) -> usize
@@ -148,12 +150,12 @@ fn give(f: &[u8], c: Case, store: &mut [u8]) {
     lay(store, f, c.records);
 }
 
-fn complain(name: &[u8], status: u8) {
-    say(b"DIFFERS, status ");
-    say_number(status as u64);
-    say(b": ");
-    say(name);
-    say(b"\n");
+fn complain(rt: &impl Print, name: &[u8], status: u8) -> io::Result<()> {
+    say(rt, b"DIFFERS, status ")?;
+    say_number(rt, status as u64)?;
+    say(rt, b": ")?;
+    say(rt, name)?;
+    say(rt, b"\n")
 }
 
 fn answer(f: &[u8], c: Case, store: &mut [u8], reply: &mut [u8]) -> u8 {
@@ -164,29 +166,50 @@ fn answer(f: &[u8], c: Case, store: &mut [u8], reply: &mut [u8]) -> u8 {
 }
 
 // Whether a case is answered as expected, on a store and a reply of the lengths that it asks for.
-fn is_met(f: &[u8], c: Case, store: &mut [u8], wanted: &[u8], reply: &mut [u8]) -> bool {
+fn is_met(
+    rt: &impl Print,
+    f: &[u8],
+    c: Case,
+    store: &mut [u8],
+    wanted: &[u8],
+    reply: &mut [u8],
+) -> io::Result<bool> {
     fill(reply, FILL);
     let status = answer(f, c, store, reply);
     if status == c.status && same(reply, string_at(f, c.reply)) && same(store, wanted) {
-        return true;
+        return Ok(true);
     }
-    complain(string_at(f, c.name), status);
-    false
+    complain(rt, string_at(f, c.name), status)?;
+    Ok(false)
 }
 
 // The store is given twice: for the code, and for what is expected.
-fn run_case(f: &[u8], c: Case, store: &mut [u8], wanted: &mut [u8], reply: &mut [u8]) -> bool {
+fn run_case(
+    rt: &impl Print,
+    f: &[u8],
+    c: Case,
+    store: &mut [u8],
+    wanted: &mut [u8],
+    reply: &mut [u8],
+) -> io::Result<bool> {
     give(f, c, store);
     give(f, c, wanted);
     lay(wanted, f, c.changes);
-    is_met(f, c, store, wanted, reply)
+    is_met(rt, f, c, store, wanted, reply)
 }
 
-fn try_case(f: &[u8], c: Case, store: &mut [u8], wanted: &mut [u8]) -> bool {
+fn try_case(
+    rt: &impl Print,
+    f: &[u8],
+    c: Case,
+    store: &mut [u8],
+    wanted: &mut [u8],
+) -> io::Result<bool> {
     let mut reply = [0u8; 64];
     let size = least(c.size, least(store.len(), wanted.len()));
     let n = least(string_at(f, c.reply).len(), 64);
     run_case(
+        rt,
         f,
         c,
         &mut store[..size],
@@ -196,18 +219,18 @@ fn try_case(f: &[u8], c: Case, store: &mut [u8], wanted: &mut [u8]) -> bool {
 }
 
 // A number in four columns, a dot for none.
-fn cell(n: u64) {
+fn cell(rt: &impl Print, n: u64) -> io::Result<()> {
     if n < 10 {
-        say(b"   ");
+        say(rt, b"   ")?;
     } else if n < 100 {
-        say(b"  ");
+        say(rt, b"  ")?;
     } else {
-        say(b" ");
+        say(rt, b" ")?;
     }
     if n == 0 {
-        say(b".");
+        say(rt, b".")
     } else {
-        say_number(n);
+        say_number(rt, n)
     }
 }
 
@@ -225,19 +248,20 @@ fn status_of(i: usize) -> usize
     }
 }
 
-fn cells(met: [u64; 256]) {
+fn cells(rt: &impl Print, met: [u64; 256]) -> io::Result<()> {
     let mut i: usize = 0;
     while i < 14 {
-        cell(met[status_of(i)]);
+        cell(rt, met[status_of(i)])?;
         i += 1;
     }
+    Ok(())
 }
 
-fn row(name: &[u8], met: [u64; 256]) {
-    cells(met);
-    say(b"  ");
-    say(name);
-    say(b"\n");
+fn row(rt: &impl Print, name: &[u8], met: [u64; 256]) -> io::Result<()> {
+    cells(rt, met)?;
+    say(rt, b"  ")?;
+    say(rt, name)?;
+    say(rt, b"\n")
 }
 
 fn counted(t: Tally, c: Case, is_right: bool) -> Tally {
@@ -254,19 +278,32 @@ fn counted(t: Tally, c: Case, is_right: bool) -> Tally {
 }
 
 // The n cases behind those tried so far.
-fn cases(f: &[u8], t: Tally, n: usize, store: &mut [u8], wanted: &mut [u8]) -> Tally {
+fn cases(
+    rt: &impl Print,
+    f: &[u8],
+    t: Tally,
+    n: usize,
+    store: &mut [u8],
+    wanted: &mut [u8],
+) -> io::Result<Tally> {
     let mut r = t;
     let mut i: usize = 0;
     while i < n {
         let c = case_at(f, r.at);
-        r = counted(r, c, try_case(f, c, store, wanted));
+        r = counted(r, c, try_case(rt, f, c, store, wanted)?);
         i += 1;
     }
-    r
+    Ok(r)
 }
 
 // The group behind them, and its row.
-fn group(f: &[u8], t: Tally, store: &mut [u8], wanted: &mut [u8]) -> Tally {
+fn group(
+    rt: &impl Print,
+    f: &[u8],
+    t: Tally,
+    store: &mut [u8],
+    wanted: &mut [u8],
+) -> io::Result<Tally> {
     let count = behind_string(f, t.at);
     let start = Tally {
         at: skip(f, count, 2),
@@ -274,10 +311,10 @@ fn group(f: &[u8], t: Tally, store: &mut [u8], wanted: &mut [u8]) -> Tally {
         right: t.right,
         met: [0; 256],
     };
-    let r = cases(f, start, two_at(f, count), store, wanted);
+    let r = cases(rt, f, start, two_at(f, count), store, wanted)?;
     let met = r.met;
-    row(string_at(f, t.at), met);
-    r
+    row(rt, string_at(f, t.at), met)?;
+    Ok(r)
 }
 
 // Room for the longest store: 257 records, one more than a store may have.
@@ -294,7 +331,7 @@ fn room_for_file() -> [u8; 524288]
     [0; 524288]
 }
 
-fn groups(f: &[u8], store: &mut [u8], wanted: &mut [u8]) -> Tally {
+fn groups(rt: &impl Print, f: &[u8], store: &mut [u8], wanted: &mut [u8]) -> io::Result<Tally> {
     let n = two_at(f, 0);
     let mut t = Tally {
         at: 2,
@@ -304,32 +341,44 @@ fn groups(f: &[u8], store: &mut [u8], wanted: &mut [u8]) -> Tally {
     };
     let mut i: usize = 0;
     while i < n {
-        t = group(f, t, store, wanted);
+        t = group(rt, f, t, store, wanted)?;
         i += 1;
     }
-    t
+    Ok(t)
 }
 
-fn run(f: &[u8]) {
+fn run(rt: &impl Print, f: &[u8]) -> io::Result<()> {
     let mut store = room();
     let mut wanted = room();
-    say(b"   0   1   2   3   4   5   6   7   8  16  17  19  20  21\n");
-    let t = groups(f, &mut store, &mut wanted);
-    say_number(t.tried);
-    say(b" cases, ");
-    say_number(t.right);
-    say(b" as expected\n");
+    say(
+        rt,
+        b"   0   1   2   3   4   5   6   7   8  16  17  19  20  21\n",
+    )?;
+    let t = groups(rt, f, &mut store, &mut wanted)?;
+    say_number(rt, t.tried)?;
+    say(rt, b" cases, ")?;
+    say_number(rt, t.right)?;
+    say(rt, b" as expected\n")
 }
 
-fn main() {
-    let path = b"cases";
-    let fd = os::open_read(path);
-    if fd < 0 {
-        os::fail(path);
-        return;
+// Reads until the buffer is full or the file ends. What comes back is how many bytes were read.
+fn read_full(file: &mut File, buf: &mut [u8]) -> io::Result<usize>
+    ensures { IfOk result (λ n. n ≤ length buf.new) }
+{
+    let mut done: usize = 0;
+    while done < buf.len() {
+        let n = file.read(&mut buf[done..])?;
+        if n == 0 {
+            break;
+        }
+        done += n;
     }
+    Ok(done)
+}
+
+fn main(rt: HostRuntime) -> io::Result<()> {
+    let mut source = fs::open(&rt, "cases")?;
     let mut file = room_for_file();
-    let n = io::read_full(fd, &mut file);
-    libc::close(fd);
-    run(&file[..n]);
+    let n = read_full(&mut source, &mut file)?;
+    run(&rt, &file[..n])
 }

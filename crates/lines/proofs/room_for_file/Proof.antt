@@ -1,8 +1,0 @@
--- `lines::room_for_file` has the length that its type says, by the law of repeated elements: they are not counted one by one.
-use Rattle.std.proofs.Common.{ℕ, sym}
-use lib.ListN.{length-replicate}
-use Rattle.lines.proofs.room_for_file.Statement.{statement}
-use Rattle.lines.proofs.room_for_file.Tie as tie
-
-pub room_for_file_spec : {M : Type 1} → statement M
-room_for_file_spec = tie.close (tie.spec (λ c. sym (length-replicate {A = ℕ} 524288 0)))
