@@ -11,9 +11,11 @@
 
 #![tactic(auto)]
 
-ghost use Rattle.std.specs.Prelude.{◌≤◌};
+ghost use Rattle.std.specs.Prelude.{◌≡◌, ◌≤◌, length, IfOk};
 
-use libc::STDOUT_FILENO;
+use std::fs::File;
+use std::io::Read;
+use std::{fs, io};
 use store_records::{byte_at, four_at, part_of, same};
 
 // Bytes of a line: a call, its chip bytes, a reply. `next` is the place behind the next line's mark, which has three bytes.
@@ -24,12 +26,12 @@ struct Draft {
     next: usize,
 }
 
-fn say(text: &[u8]) {
-    io::write_all(STDOUT_FILENO, text);
+fn say(rt: &impl Print, text: &[u8]) -> io::Result<()> {
+    rt.write_all(text)
 }
 
-fn say_number(n: u64) {
-    io::print_decimal(STDOUT_FILENO, n);
+fn say_number(rt: &impl Print, n: u64) -> io::Result<()> {
+    rt.print(n)
 }
 
 fn behind(at: usize, n: usize) -> usize {
@@ -37,7 +39,7 @@ fn behind(at: usize, n: usize) -> usize {
 }
 
 // The text from a place up to the next order is printed. What comes back is the place behind it.
-fn say_text(f: &[u8], at: usize) -> usize {
+fn say_text(rt: &impl Print, f: &[u8], at: usize) -> io::Result<usize> {
     let mut end = at;
     while end < f.len() {
         if f[end] == b'%' {
@@ -45,8 +47,8 @@ fn say_text(f: &[u8], at: usize) -> usize {
         }
         end += 1;
     }
-    say(part_of(f, at, std::num::wrapping_sub_usize(end, at)));
-    end
+    say(rt, part_of(f, at, std::num::wrapping_sub_usize(end, at)))?;
+    Ok(end)
 }
 
 // The number of a hexadecimal digit.
@@ -115,35 +117,45 @@ fn of_kind(store: &[u8], kind: u8) -> u64 {
     n
 }
 
-fn say_same(is_same: bool) {
+fn say_same(rt: &impl Print, is_same: bool) -> io::Result<()> {
     if is_same {
-        say(b"same");
+        say(rt, b"same")
     } else {
-        say(b"other");
+        say(rt, b"other")
     }
 }
 
 // What two stores have in common.
-fn say_compared(order: u8, store: &[u8], copy: &[u8]) {
+fn say_compared(rt: &impl Print, order: u8, store: &[u8], copy: &[u8]) -> io::Result<()> {
     if order == b'r' {
-        say_same(same_records(store, copy));
+        say_same(rt, same_records(store, copy))
     } else if order == b'p' {
-        say_same(same(store, copy));
+        say_same(rt, same(store, copy))
     } else {
-        say_same(same(part_of(store, 256, 3840), part_of(copy, 256, 3840)));
+        say_same(
+            rt,
+            same(part_of(store, 256, 3840), part_of(copy, 256, 3840)),
+        )
     }
 }
 
 // What an order prints.
-fn say_value(order: u8, store: &[u8], copy: &[u8], reply: &[u8]) {
+fn say_value(
+    rt: &impl Print,
+    order: u8,
+    store: &[u8],
+    copy: &[u8],
+    reply: &[u8],
+) -> io::Result<()> {
     if order == b's' {
-        say_number(byte_at(reply, 0) as u64);
+        say_number(rt, byte_at(reply, 0) as u64)
     } else if order == b'h' {
-        io::print_hex(STDOUT_FILENO, four_at(reply, 1) as u64, 8);
+        let handle = four_at(reply, 1);
+        print!(rt; "{handle:08x}")
     } else if order < b'7' {
-        say_number(of_kind(store, order % 16));
+        say_number(rt, of_kind(store, order % 16))
     } else {
-        say_compared(order, store, copy);
+        say_compared(rt, order, store, copy)
     }
 }
 
@@ -163,39 +175,54 @@ fn make_call(f: &[u8], at: usize, store: &mut [u8], reply: &mut [u8]) -> usize {
 }
 
 // The reply is compared with the one at a place. What comes back is the place behind that.
-fn compare(f: &[u8], at: usize, reply: &[u8]) -> usize {
+fn compare(rt: &impl Print, f: &[u8], at: usize, reply: &[u8]) -> io::Result<usize> {
     let wanted = unhex(f, at);
     let n = wanted.size;
     if !same(reply, part_of(&wanted.bytes, 0, n)) {
-        say(b"DIFFERS");
+        say(rt, b"DIFFERS")?;
     }
-    wanted.next
+    Ok(wanted.next)
 }
 
 // What an order asks for. What comes back is the place behind the order.
 fn follow(
+    rt: &impl Print,
     f: &[u8],
     at: usize,
     order: u8,
     store: &mut [u8; 4096],
     copy: &[u8; 4096],
     reply: &mut [u8; 37],
-) -> usize {
+) -> io::Result<usize> {
     if order == b'c' {
-        return compare(f, make_call(f, behind(at, 1), store, reply), reply);
+        return compare(rt, f, make_call(f, behind(at, 1), store, reply), reply);
     }
     if order == b'f' {
         reply[0] = token::format(store);
-        return at;
+        return Ok(at);
     }
-    say_value(order, store, copy, reply);
-    at
+    say_value(rt, order, store, copy, reply)?;
+    Ok(at)
+}
+
+// Room for a store of 16 records.
+fn room() -> [u8; 4096]
+    ensures { 4096 ≡ length result }
+{
+    [0; 4096]
+}
+
+// Room for the file.
+fn room_for_file() -> [u8; 65536]
+    ensures { 65536 ≡ length result }
+{
+    [0; 65536]
 }
 
 // The story. In each turn a text is printed or an order is followed, so that there are no more turns than bytes.
-fn tell(f: &[u8]) {
-    let mut store = io::buffer();
-    let mut copy = io::buffer();
+fn tell(rt: &impl Print, f: &[u8]) -> io::Result<()> {
+    let mut store = room();
+    let mut copy = room();
     let mut reply = [0u8; 37];
     let mut at: usize = 0;
     let mut left = f.len();
@@ -210,24 +237,34 @@ fn tell(f: &[u8]) {
                 store = copy;
                 copy = kept;
             } else {
-                at = follow(f, at, order, &mut store, &copy, &mut reply);
+                at = follow(rt, f, at, order, &mut store, &copy, &mut reply)?;
             }
         } else {
-            at = say_text(f, at);
+            at = say_text(rt, f, at)?;
         }
         left -= 1;
     }
+    Ok(())
 }
 
-fn main() {
-    let path = b"story";
-    let fd = os::open_read(path);
-    if fd < 0 {
-        os::fail(path);
-        return;
+// Reads until the buffer is full or the file ends. What comes back is how many bytes were read.
+fn read_full(file: &mut File, buf: &mut [u8]) -> io::Result<usize>
+    ensures { IfOk result (λ n. n ≤ length buf.new) }
+{
+    let mut done: usize = 0;
+    while done < buf.len() {
+        let n = file.read(&mut buf[done..])?;
+        if n == 0 {
+            break;
+        }
+        done += n;
     }
-    let mut file = io::large_buffer();
-    let n = io::read_full(fd, &mut file);
-    libc::close(fd);
-    tell(&file[..n]);
+    Ok(done)
+}
+
+fn main(rt: HostRuntime) -> io::Result<()> {
+    let mut source = fs::open(&rt, "story")?;
+    let mut file = room_for_file();
+    let n = read_full(&mut source, &mut file)?;
+    tell(&rt, &file[..n])
 }
