@@ -8,9 +8,9 @@ ghost use Rattle.std.specs.Prelude.{◌≡◌, [], map, get_or, set};
 ghost use Rattle.paper.specs.Bytes.{over};
 ghost use Rattle.paper.specs.Form.{test, some, only};
 ghost use Rattle.paper.specs.Records.{records, block, is};
-ghost use Rattle.paper.specs.Sound.{governs as governsIt};
+ghost use Rattle.paper.specs.Sound.{governs as governs_it};
 ghost use Rattle.paper.specs.Calls.{subject, key_in, path_in};
-ghost use Rattle.paper.specs.Objects.{misplaced, unlike, unprotected, key_names, key_numbers, key_pin, key_seal, key_faults, key_record, make_key_by, path_rules, path_seal, path_faults, certified as withPath, set_path_by};
+ghost use Rattle.paper.specs.Objects.{misplaced, unlike, unprotected, key_names, key_numbers, key_pin, key_seal, key_faults, key_record, make_key_by, path_rules, path_seal, path_faults, certified as with_path, set_path_by};
 ghost use Rattle.paper.specs.Act.{perform};
 ghost use Rattle.store_records.specs.View.{Becomes};
 ghost use Rattle.store_draft.specs.Drafts.{laid};
@@ -90,7 +90,7 @@ fn is_misplaced(pol: &[u8], q: KeyFields, c: &[u8], chip: &[u8]) -> bool
 
 // Whether the policy is that of the key x, and x a key of the session under it that has another PIN.
 fn governs(pol: &[u8], x: &[u8]) -> bool
-    ensures { result ≡ test (governsIt pol.now x.now) }
+    ensures { result ≡ test (governs_it pol.now x.now) }
 {
     is_kind(pol, paper::POLICY) & is_child(x, paper::KEY, four_at(pol, OWN), four_at(pol, HOME))
 }
@@ -266,7 +266,7 @@ fn with_digest(r: [u8; 256], d: [u8; 32]) -> [u8; 256]
 }
 
 fn certified(r: [u8; 256], d: [u8; 32]) -> [u8; 256]
-    ensures { result ≡ withPath d r }
+    ensures { result ≡ with_path d r }
 {
     let mut b = with_digest(r, d);
     b[PATH_SET] = 1;
@@ -274,7 +274,7 @@ fn certified(r: [u8; 256], d: [u8; 32]) -> [u8; 256]
 }
 
 fn certify_at(s: &mut [u8], i: usize, k: u32, t: u32, d: [u8; 32])
-    ensures { Becomes (set (records s.old) i (only (is 4 k t) (withPath d) (get_or (records s.old) i []))) s.old s.new }
+    ensures { Becomes (set (records s.old) i (only (is 4 k t) (with_path d) (get_or (records s.old) i []))) s.old s.new }
 {
     if is_that(record_at(s, i), paper::KEY, k, t) {
         let r = certified(copy_of(s, i), d);
@@ -284,7 +284,7 @@ fn certify_at(s: &mut [u8], i: usize, k: u32, t: u32, d: [u8; 32])
 
 // The key k of the session t has a path whose end-entity certificate has the digest d.
 fn certify(s: &mut [u8], k: u32, t: u32, d: [u8; 32])
-    ensures { Becomes (map (only (is 4 k t) (withPath d)) (records s.old)) s.old s.new }
+    ensures { Becomes (map (only (is 4 k t) (with_path d)) (records s.old)) s.old s.new }
 {
     let n = s.len() / RECORD_BYTES;
     let mut i: usize = 0;

@@ -6,7 +6,7 @@
 ghost use Rattle.std.specs.Prelude.{◌≡◌, [], map, ◌+◌, ◌≤◌, get_or, set};
 ghost use Rattle.paper.specs.Bytes.{enc4, over, byte};
 ghost use Rattle.paper.specs.Form.{test, some, ◌equals◌, ◌and◌};
-ghost use Rattle.paper.specs.Records.{records, handle, next_session, kind as kind_of, bears as bearsIt, block};
+ghost use Rattle.paper.specs.Records.{records, handle, next_session, kind as kind_of, bears as bears_it, block};
 ghost use Rattle.paper.specs.Calls.{subject, create_in, close_in};
 ghost use Rattle.paper.specs.Sessions.{counter, client_taken, given as given_if, session_record, counted, create_session, unfit, close_rules, close_seal};
 ghost use Rattle.store_records.specs.View.{Becomes};
@@ -195,7 +195,7 @@ pub enum Flaw {
 
 // Whether a record of the session t is a PUK or a policy without child in it.
 fn is_childless(s: &[u8], t: u32, r: &[u8]) -> bool
-    ensures { result ≡ test (bearsIt t r.now and childless (block t (records s.now)) r.now) }
+    ensures { result ≡ test (bears_it t r.now and childless (block t (records s.now)) r.now) }
 {
     if !bears(r, t) {
         return false;
@@ -211,7 +211,7 @@ fn is_childless(s: &[u8], t: u32, r: &[u8]) -> bool
 }
 
 fn is_marked(r: &[u8], t: u32, kind: u8, at: usize, mark: u8) -> bool
-    ensures { result ≡ test (bearsIt t r.now and (kind_of r.now equals kind and byte at r.now equals mark)) }
+    ensures { result ≡ test (bears_it t r.now and (kind_of r.now equals kind and byte at r.now equals mark)) }
 {
     if !bears(r, t) {
         return false;

@@ -8,7 +8,7 @@ ghost use Rattle.std.specs.Prelude.{◌≡◌, ◌+◌, ◌*◌, ◌≤◌, [], 
 ghost use Rattle.hmac.specs.Same.{same as same_bytes};
 ghost use Rattle.paper.specs.Bytes.{byte, two, four, part, string_at, behind, text_at, within, all_within};
 ghost use Rattle.paper.specs.Form.{test, ◌equals◌, some, seek};
-ghost use Rattle.paper.specs.Records.{records, is, bears as bearsIt, is_free, at, session_of};
+ghost use Rattle.paper.specs.Records.{records, is, bears as bears_it, is_free, at, session_of};
 ghost use Rattle.paper.specs.Closing.{held};
 ghost use Rattle.store_records.specs.View.{index};
 ghost use Rattle.store_records.specs.Choices.{chosen};
@@ -235,7 +235,7 @@ pub fn is_limited(r: &[u8], kind: u8, own: u32, session: u32) -> bool
 }
 
 pub fn bears(r: &[u8], handle: u32) -> bool
-    ensures { result ≡ test (bearsIt handle r.now) }
+    ensures { result ≡ test (bears_it handle r.now) }
 {
     four_at(r, HOME) == handle
 }
