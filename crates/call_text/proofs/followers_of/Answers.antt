@@ -7,38 +7,38 @@ returns-then-is_within c = rw (sym c.is_within.ensures ∙ c.if-is_within.true)
 
 pub returns-then-is_within-2 : goal.returns-then-is_within-2
 returns-then-is_within-2 c =
-    let is_Within = c.is_within in
+    let within = c.is_within in
     let if1 = c.if-is_within in
     let is-within2 = c.is_within-2 in
-    rw (sym is_Within.ensures ∙ if1.false, sym is-within2.ensures ∙ c.if-is_within-2.true)
+    rw (sym within.ensures ∙ if1.false, sym is-within2.ensures ∙ c.if-is_within-2.true)
 
 pub returns-then-is_within-3 : goal.returns-then-is_within-3
 returns-then-is_within-3 c =
-    let is_Within = c.is_within in
+    let within = c.is_within in
     let if1 = c.if-is_within in
     let is-within2 = c.is_within-2 in
     let if2 = c.if-is_within-2 in
     let is-within3 = c.is_within-3 in
-    rw (sym is_Within.ensures ∙ if1.false, sym is-within2.ensures ∙ if2.false, sym is-within3.ensures ∙ c.if-is_within-3.true)
+    rw (sym within.ensures ∙ if1.false, sym is-within2.ensures ∙ if2.false, sym is-within3.ensures ∙ c.if-is_within-3.true)
 
 pub returns-then-is_within-4 : goal.returns-then-is_within-4
 returns-then-is_within-4 c =
-    let is_Within = c.is_within in
+    let within = c.is_within in
     let if1 = c.if-is_within in
     let is-within2 = c.is_within-2 in
     let if2 = c.if-is_within-2 in
     let is-within3 = c.is_within-3 in
     let if3 = c.if-is_within-3 in
     let is-within4 = c.is_within-4 in
-    rw (sym is_Within.ensures ∙ if1.false, sym is-within2.ensures ∙ if2.false, sym is-within3.ensures ∙ if3.false, sym is-within4.ensures ∙ c.if-is_within-4.true)
+    rw (sym within.ensures ∙ if1.false, sym is-within2.ensures ∙ if2.false, sym is-within3.ensures ∙ if3.false, sym is-within4.ensures ∙ c.if-is_within-4.true)
 
 pub returns : goal.returns
 returns c =
-    let is_Within = c.is_within in
+    let within = c.is_within in
     let if1 = c.if-is_within in
     let is-within2 = c.is_within-2 in
     let if2 = c.if-is_within-2 in
     let is-within3 = c.is_within-3 in
     let if3 = c.if-is_within-3 in
     let is-within4 = c.is_within-4 in
-    rw (sym is_Within.ensures ∙ if1.false, sym is-within2.ensures ∙ if2.false, sym is-within3.ensures ∙ if3.false, sym is-within4.ensures ∙ c.if-is_within-4.false)
+    rw (sym within.ensures ∙ if1.false, sym is-within2.ensures ∙ if2.false, sym is-within3.ensures ∙ if3.false, sym is-within4.ensures ∙ c.if-is_within-4.false)
