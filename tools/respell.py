@@ -2,8 +2,8 @@
 """Brings the repository's own definitions and lemmas to today's spelling, once, after the kit's port script.
 
 A word is in snake case: `keyRecord` becomes `key_record`. A dash stays between the names of two definitions (`length-zeros_of`) and is
-an underscore elsewhere (`closes_at_most_once`). Names of src/, generated names and strings keep their spelling. It prints each name and
-its new one, and refuses names that would fall together.
+an underscore elsewhere (`closes_at_most_once`). Where a statement said `==`, which is the library's own now, it says `equals`. Names of
+src/, generated names and strings keep their spelling. It prints each name and its new one, and refuses names that would fall together.
 
 usage: tools/respell.py [--anyway]    at the top of the repository
 """
@@ -20,6 +20,7 @@ TOKEN = re.compile(r"[^\s(){}\[\],.;:\"⌜⌝|\\`]+")
 HEAD = re.compile(r"^(?:abbrev |unfoldable )?(?:pub )?(?:record |data )?(?:pub )?([^\s:(){}]+)(?: .*)?:")
 SEVERAL = re.compile(r"^(?:abbrev |unfoldable )?(?:pub )?((?:[^\s:(){}=.,;]+ )+):\s")
 INNER = re.compile(r"^\s+(?:pub )?((?:[^\s:(){}=.,;]+ )+):\s")
+EQUALS = re.compile(r"(?<![=<>!])==(?![=>])")
 PROOF = re.compile(r"^Proof\.antt$")
 # words of the libraries that a dash may join to a name of ours
 STD = set("length take drop map append reverse replicate set get_or sum nil cons zero suc add mul".split())
@@ -94,8 +95,9 @@ def table():
     for path in ANTT + RT:
         words = words_of(path)
         files.append((path, words))
-        if path.suffix == ".antt":
-            bound.update(w for w in words if re.match(r"^[a-z]+[0-9]?[A-Z]\w*$", w))
+        bound.update(w for w in words if path.suffix == ".antt" and re.match(r"^[a-z]+[0-9]?[A-Z]\w*$", w))
+        if path.suffix == ".rt":
+            bound.update(re.findall(r" as ([a-z]+[A-Z]\w*)[,}]", path.read_text(encoding="utf8")))
     names = {w for w in definitions | others if ours(w)} | {w for w in bound if ours(w) and "-" not in w}
     new = {w: respelled(w, definitions) for w in names}
     new = {w: n for w, n in new.items() if n != w}
@@ -128,7 +130,7 @@ def clause_lines(text):
 def turn(text, new):
     """The text with its names respelled; what stands in quotes stays."""
     parts = re.split(r"(\"[^\"]*\")", text)
-    return "".join(p if p[:1] == '"' else TOKEN.sub(lambda m: new.get(m[0], m[0]), p) for p in parts)
+    return "".join(p if p[:1] == '"' else TOKEN.sub(lambda m: new.get(m[0], m[0]), EQUALS.sub("equals", p)) for p in parts)
 
 
 def turn_ticked(text, new, defined_names):

@@ -10,10 +10,10 @@ ghost use Rattle.paper.specs.Limits.{record_bytes, most_records};
 ghost use Rattle.paper.specs.Form.{test, some};
 ghost use Rattle.paper.specs.Records.{records, kind as kind_of, session as session_of, KEY};
 ghost use Rattle.paper.specs.Bytes.{byte};
-ghost use Rattle.paper.specs.Closing.{holds as heldBy, lost, key_goes, policy_goes, puk_goes, session_goes, puk_unlocked, has_key, one};
+ghost use Rattle.paper.specs.Closing.{holds as held_by, lost, key_goes, policy_goes, puk_goes, session_goes, puk_unlocked, has_key, one};
 ghost use Rattle.store_records.specs.Choices.{chosen};
 ghost use Rattle.effect_plan.specs.Sets.{keys_of, holding, pending_of, Joined, mark, Marked, homes_of, Widened, Extended, AllHome, Told, ToldAt, Settled, Decided, home_of, under, key_so, policy_so, parent_goes};
-ghost use Rattle.effect_plan.specs.Fate.{fate, fitting, plan_of, STAYS as stays, FREED as freed, KEY_CLEARED as keyCleared, PUK_CLEARED as pukCleared, MADE_STALE as madeStale};
+ghost use Rattle.effect_plan.specs.Fate.{fate, fitting, plan_of, STAYS as stays, FREED as freed, KEY_CLEARED as key_cleared, PUK_CLEARED as puk_cleared, MADE_STALE as made_stale};
 
 use paper::{
     CLOSED, HOME, KIND, MOST_RECORDS, OPERATION, OWN, PARENT, PENDING, POLICY, PUK, RECORD_BYTES,
@@ -92,7 +92,7 @@ fn is_holding(q: &[u8], session: u32, op: u8, key: u32) -> bool
 
 // Whether a session has an unstale pending of the operation on the key.
 fn holds(store: &[u8], session: u32, op: u8, key: u32) -> bool
-    ensures { result ≡ heldBy session op (records store.now) key }
+    ensures { result ≡ held_by session op (records store.now) key }
 {
     let n = store.len() / RECORD_BYTES;
     let mut i: usize = 0;
@@ -159,7 +159,7 @@ fn with_pending(ks: Keys, q: &[u8], session: u32, op: u8) -> Keys
 
 // The keys that a session holds with an operation, by their handles where they are few: then no one need look at the store for them.
 pub fn held_keys(store: &[u8], session: u32, op: u8) -> Keys
-    ensures { keys_of result (records store.now) ≡ heldBy session op (records store.now) }
+    ensures { keys_of result (records store.now) ≡ held_by session op (records store.now) }
 {
     let n = store.len() / RECORD_BYTES;
     let mut ks = Keys::Nobody;
@@ -472,7 +472,7 @@ fn unlocked_near(store: &[u8], m: &[u8], hs: Homes, r: &[u8]) -> bool
 
 // What becomes of a key with these marks: a is that of the keys to be removed, b that of those to be unlocked.
 fn key_fate(a: u8, b: u8) -> u8
-    ensures { result ≡ cond (eqb a 1) freed (cond (eqb b 1) keyCleared stays) }
+    ensures { result ≡ cond (eqb a 1) freed (cond (eqb b 1) key_cleared stays) }
 {
     if a == 1 {
         return FREED;
@@ -494,7 +494,7 @@ fn is_marked(a: u8, b: u8) -> bool
 
 // What becomes of a pending with these marks.
 fn pending_fate(a: u8, b: u8) -> u8
-    ensures { result ≡ cond (eqb a 1 || eqb b 1) madeStale stays }
+    ensures { result ≡ cond (eqb a 1 || eqb b 1) made_stale stays }
 {
     if is_marked(a, b) {
         return MADE_STALE;
@@ -504,7 +504,7 @@ fn pending_fate(a: u8, b: u8) -> u8
 
 // What becomes of any other record.
 fn parent_fate(store: &[u8], md: &[u8], mu: &[u8], hd: Homes, hu: Homes, r: &[u8]) -> u8
-    ensures { Settled (records store.now) md.now mu.now hd hu result (λ d u. cond (test (parent_goes d (records store.now) r.now)) freed (cond (test (puk_unlocked u (records store.now) r.now)) pukCleared stays)) }
+    ensures { Settled (records store.now) md.now mu.now hd hu result (λ d u. cond (test (parent_goes d (records store.now) r.now)) freed (cond (test (puk_unlocked u (records store.now) r.now)) puk_cleared stays)) }
 {
     if goes_near(store, md, hd, r) {
         return FREED;

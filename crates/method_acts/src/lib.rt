@@ -10,7 +10,7 @@ ghost use Rattle.std.proofs.Math.Option.{some as just};
 ghost use Rattle.paper.specs.Bytes.{enc2, over};
 ghost use Rattle.paper.specs.Form.{test};
 ghost use Rattle.paper.specs.Records.{records, block};
-ghost use Rattle.paper.specs.Act.{perform, moved as movedOn, advance as advanced, passes_limit, objects_used_up, fresh as fresh_handle};
+ghost use Rattle.paper.specs.Act.{perform, moved as moved_on, advance as advanced, passes_limit, objects_used_up, fresh as fresh_handle};
 ghost use Rattle.paper.specs.Objects.{taken, not_there, sealed_by};
 ghost use Rattle.store_records.specs.View.{Becomes};
 ghost use Rattle.store_session.specs.Decoded.{value_of};
@@ -145,7 +145,7 @@ fn with_two(mut r: [u8; 256], k: usize, n: usize) -> [u8; 256]
 }
 
 fn moved(r: [u8; 256], objects: u8, used: u8) -> [u8; 256]
-    ensures { result ≡ movedOn objects used r }
+    ensures { result ≡ moved_on objects used r }
 {
     let next = two_at(&r, NEXT_OBJECT) + (objects as usize);
     let counter = two_at(&r, MAC_COUNTER) + (used as usize);

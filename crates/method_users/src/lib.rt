@@ -8,7 +8,7 @@
 ghost use Rattle.std.specs.Prelude.{◌≡◌, not, ◌&&◌, List, map, ℕ, eqb, length};
 ghost use Rattle.paper.specs.Form.{Rec, test, ◌equals◌, no};
 ghost use Rattle.paper.specs.Records.{records};
-ghost use Rattle.paper.specs.Calls.{typed as typedIn, typed_new};
+ghost use Rattle.paper.specs.Calls.{typed as typed_in, typed_new};
 ghost use Rattle.paper.specs.Pin.{verdict, pin_check, puk_check, pin_missed, puk_missed};
 ghost use Rattle.paper.specs.Users.{tried, delete_faults, unlock_faults, change_faults, use_faults, delete_key, unlock_key, change_pin, use_key};
 ghost use Rattle.store_records.specs.View.{Becomes};
@@ -64,7 +64,7 @@ struct Step {
 
 // What is typed, and the new PIN behind it.
 fn typed<'a>(c: &'a [u8]) -> &'a [u8]
-    ensures { result.now ≡ typedIn c.now }
+    ensures { result.now ≡ typed_in c.now }
 {
     string_in(c, BEHIND_SUBJECT)
 }
@@ -77,7 +77,7 @@ fn new_pin<'a>(c: &'a [u8]) -> &'a [u8]
 }
 
 fn is_given(c: &[u8]) -> bool
-    ensures { result ≡ test (no (length (typedIn c.now) equals 0)) }
+    ensures { result ≡ test (no (length (typed_in c.now) equals 0)) }
 {
     let v = typed(c);
     v.len() != 0

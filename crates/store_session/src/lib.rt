@@ -5,7 +5,7 @@
 ghost use Rattle.std.specs.Prelude.{◌≡◌, List, ◌++◌, ℕ};
 ghost use Rattle.paper.specs.Bytes.{two};
 ghost use Rattle.store_draft.specs.Drafts.{Drafts};
-ghost use Rattle.store_session.specs.Decoded.{block, front as frontOf, ids as ids_of, names as names_of, back as backOf, decoded, encoded};
+ghost use Rattle.store_session.specs.Decoded.{block, front as front_of, ids as ids_of, names as names_of, back as back_of, decoded, encoded};
 
 use paper::{
     CLIENT_ID, CLIENT_TIME, HANDLE_BYTES, HOME, KEY_LIMIT, KEY_MANAGEMENT, LIFE_TIME, MAC_COUNTER,
@@ -82,7 +82,7 @@ pub fn decode(r: &[u8]) -> Session
 }
 
 fn front(x: Session) -> Draft
-    ensures { Drafts result (frontOf x) }
+    ensures { Drafts result (front_of x) }
 {
     let a = store_draft::byte(
         store_draft::byte(store_draft::start(), paper::SESSION),
@@ -109,7 +109,7 @@ fn names(d: Draft, x: Session) -> Draft
 }
 
 fn back(d: Draft, x: Session) -> Draft
-    ensures { (w : List ℕ) → Drafts d w → Drafts result (w ++ backOf x) }
+    ensures { (w : List ℕ) → Drafts d w → Drafts result (w ++ back_of x) }
 {
     let time = x.time as u64;
     let life = x.life as u64;
