@@ -2,7 +2,7 @@
 """Brings the repository's own definitions and lemmas to today's spelling, once, after the kit's port script.
 
 A word is in snake case: `keyRecord` becomes `key_record`. A dash stays between the names of two definitions (`length-zeros_of`) and is
-an underscore elsewhere (`closes_at_most_once`). Where a statement said `==`, which is the library's own now, it says `equals`. Names of
+an underscore elsewhere (`not_both`). Where a statement said `==`, which is the library's own now, it says `equals`. Names of
 src/, generated names and strings keep their spelling. It prints each name and its new one, and refuses names that would fall together.
 
 usage: tools/respell.py [--anyway]    at the top of the repository
