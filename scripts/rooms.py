@@ -38,7 +38,7 @@ RULE = {
 DOORS = {"meaning": ("paper", "laws")}
 
 # Supplied with the language, for programs.
-SUPPLIED = {"check": {"top"}, "io": {"top"}, "os": {"top"}, "libc": {"top"}}
+SUPPLIED = {"check": {"top"}}
 
 SAYS = {
     "hash": "SHA-256 and HMAC",

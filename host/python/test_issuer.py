@@ -83,7 +83,7 @@ class Same(unittest.TestCase):
         rust = self.declared((TOP / "host/issuer/src/library.rs").read_text(), r"pub fn (sks_\w+)\(([^)]*)\)",
                              [(r"(\w+): \*const u8, \1_len: usize", r"b \1"), (r"(\w+): \*mut u8, \1_len: usize", r"o \1"),
                               (r"(\w+): \*mut usize", r"w \1"), *numbers])
-        self.declared((TOP / "crates/issuer/src/lib.rt").read_text(), r"pub extern \"C\" fn (sks_\w+)(?:<'a>)?\(([^)]*)\)",
+        self.declared((TOP / "crates/issuer_c/src/lib.rt").read_text(), r"pub extern \"C\" fn (sks_\w+)(?:<'a>)?\(([^)]*)\)",
                       [(r"(\w+): &'a \[u8\]", r"b \1"), (r"(\w+): &mut \[u8\]", r"o \1"), (r"(\w+): &mut usize", r"w \1"), *numbers])
         self.assertEqual(header, rust)
         for name, order in ORDERS.items():
