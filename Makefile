@@ -5,7 +5,7 @@ help: ## this list
 	@grep -E '^[a-z]+:.*##' Makefile | sed -E 's/:.*## /\t/'
 
 story: ## prove the token, then tell the story of two tabs and one key, call by call
-	cd crates/story && rt run
+	scripts/program story
 
 test: ## all proofs, the must-fail edits, programs, the tests around the library (the merge gate)
 	bash .ci/run
