@@ -77,7 +77,7 @@ def clause_lines(text):
 
 def words_of(path):
     """The names that live beside one another in a file: of a source, its parameters, fields and what its ghost text says."""
-    text = re.sub(r"\"[^\"]*\"", " ", path.read_text(encoding="utf8"))
+    text = re.sub(r"\"[^\"]*\"|^\s*--.*$", " ", path.read_text(encoding="utf8"), flags=re.M)
     if path.suffix == ".antt":
         # names that are made from the source stand in a path
         return set(TOKEN.findall(re.sub(r"(?<=\w)\.\w+(?=\.)", " ", text)))
