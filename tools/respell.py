@@ -21,7 +21,6 @@ HEAD = re.compile(r"^(?:abbrev |unfoldable )?(?:pub )?(?:record |data )?(?:pub )
 SEVERAL = re.compile(r"^(?:abbrev |unfoldable )?(?:pub )?((?:[^\s:(){}=.,;]+ )+):\s")
 INNER = re.compile(r"^\s+(?:pub )?((?:[^\s:(){}=.,;]+ )+):\s")
 EQUALS = re.compile(r"(?<![=<>!])==(?![=>])")
-PROOF = re.compile(r"^Proof\.antt$")
 # words of the libraries that a dash may join to a name of ours
 STD = set("length take drop map append reverse replicate set get_or sum nil cons zero suc add mul".split())
 
@@ -41,7 +40,7 @@ def defined():
             if m := SEVERAL.match(line):
                 own.update(m[1].split())
             elif m := HEAD.match(line) if line[:1] not in (" ", "") else None:
-                if not (PROOF.match(path.name) and m[1].endswith("-spec")):
+                if not (path.name == "Proof.antt" and m[1].endswith("-spec")):
                     own.add(m[1])
             elif m := INNER.match(line):
                 others.update(m[1].split())
@@ -102,7 +101,7 @@ def table():
     new = {w: respelled(w, definitions) for w in names}
     new = {w: n for w, n in new.items() if n != w}
     bad = []
-    for again in range(2):
+    for _ in range(2):
         bad = []
         for path, words in files:
             seen = {}
@@ -115,16 +114,6 @@ def table():
                 elif len(ws) > 1:
                     new[lemmas[0]] = n + "_lem"
     return new, bad, definitions | others
-
-
-def clause_lines(text):
-    """Of a source: for each line whether ghost text stands on it."""
-    deep = 0
-    for line in text.split("\n"):
-        ghost = deep > 0 or re.match(r"^\s*(ghost |requires|ensures)", line)
-        if ghost and not line.lstrip().startswith("//"):
-            deep = max(0, deep + line.count("{") - line.count("}"))
-        yield line, bool(ghost)
 
 
 def turn(text, new):
