@@ -40,7 +40,7 @@ def definitions(path):
 def code(path):
     """Functions, types, constants, cases and fields of a source."""
     text = path.read_text()
-    named = set(re.findall(r"\b(?:fn|struct|enum|const|static)\s+(\w+)", text))
+    named = set(re.findall(r"\b(?:fn|struct|enum|trait|const|static)\s+(\w+)", text))
     return named | set(re.findall(r"^\s+(\w+)(?:\([^)]*\))?,$", text, re.M)) | set(re.findall(r"^\s+(\w+):\s", text, re.M))
 
 

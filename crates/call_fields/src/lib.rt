@@ -70,15 +70,14 @@ fn behind_one(c: &[u8], k: usize) -> usize
 }
 
 // The place behind n strings, of which the first stands at k.
+#[tactic(auto, using(crate::proofs::Strings::behind_more))]
 fn skip(c: &[u8], n: u8, k: usize) -> usize
     requires { k ≤ 1000000 }
     ensures { (result ≡ behind_strings n k c.now) × (result ≤ k + n * 65537) }
 {
     let mut at = k;
-    let mut left = n;
-    while 0 < left {
+    for _ in 0..n {
         at = behind_one(c, at);
-        left -= 1;
     }
     at
 }
@@ -87,7 +86,7 @@ fn skip(c: &[u8], n: u8, k: usize) -> usize
 pub fn behind_strings(c: &[u8], k: u16, n: u8) -> usize
     ensures { result ≡ behind_strings n k c.now }
 {
-    skip(c, n, k as usize)
+    skip(c, n, usize::from(k))
 }
 
 // 2 createProvisioningSession
@@ -114,11 +113,11 @@ pub fn create_fields(c: &[u8]) -> CreateFields
     let times = behind_one(c, management);
     CreateFields {
         privacy: byte_at(c, privacy),
-        server: server,
-        ephemeral: ephemeral,
-        issuer: issuer,
-        management: management,
-        times: times,
+        server,
+        ephemeral,
+        issuer,
+        management,
+        times,
         limit: two_at(c, times + TIMES_BYTES),
         end: times + TIMES_AND_LIMIT,
     }
@@ -136,7 +135,7 @@ pub fn close_fields(c: &[u8]) -> CloseFields
 {
     let mac = behind_one(c, BEHIND_SUBJECT);
     CloseFields {
-        mac: mac,
+        mac,
         end: mac + MAC_BYTES,
     }
 }
@@ -157,7 +156,7 @@ pub fn puk_fields(c: &[u8]) -> PukFields
     let encrypted = behind_one(c, BEHIND_SUBJECT);
     let rules = behind_one(c, encrypted);
     PukFields {
-        encrypted: encrypted,
+        encrypted,
         format: byte_at(c, rules),
         retry: byte_at(c, rules + RETRY_BEHIND),
         mac: rules + PUK_RULES,
@@ -234,8 +233,8 @@ pub fn key_fields(c: &[u8]) -> KeyFields
     let parameters = behind_one(c, algorithm);
     let endorsed = behind_one(c, parameters);
     KeyFields {
-        entry: entry,
-        seed: seed,
+        entry,
+        seed,
         policy: four_at(c, policy),
         pin: policy + HANDLE_BYTES,
         caching: byte_at(c, flags),
@@ -243,9 +242,9 @@ pub fn key_fields(c: &[u8]) -> KeyFields
         export: byte_at(c, flags + EXPORT),
         deletion: byte_at(c, flags + DELETION),
         usage: byte_at(c, flags + USAGE),
-        friendly: friendly,
-        algorithm: algorithm,
-        parameters: parameters,
+        friendly,
+        algorithm,
+        parameters,
         endorsed: two_at(c, endorsed),
         mac: endorsed + COUNT_BYTES,
         end: endorsed + COUNT_BYTES + MAC_BYTES,
@@ -268,8 +267,8 @@ pub fn path_fields(c: &[u8]) -> PathFields
     let mac = skip(c, count, CERTIFICATES);
     PathFields {
         key: four_at(c, BEHIND_SUBJECT),
-        count: count,
-        mac: mac,
+        count,
+        mac,
         end: mac + MAC_BYTES,
     }
 }
@@ -288,7 +287,7 @@ pub fn post_fields(c: &[u8]) -> PostFields
     let mac = behind_one(c, AUTHORIZATION);
     PostFields {
         key: four_at(c, BEHIND_SUBJECT),
-        mac: mac,
+        mac,
         end: mac + MAC_BYTES,
     }
 }
@@ -305,7 +304,7 @@ pub fn typed_fields(c: &[u8]) -> TypedFields
 {
     let second = behind_one(c, BEHIND_SUBJECT);
     TypedFields {
-        second: second,
+        second,
         end: behind_one(c, second),
     }
 }
@@ -327,10 +326,7 @@ pub fn first_digest(c: &[u8]) -> [u8; 32]
 pub fn issuer_sets(handle: u32, policy: &[u8]) -> bool
     ensures { (q : Key) → q.policy ≡ handle → result ≡ issuer_sets q policy.now }
 {
-    if handle == 0 {
-        return false;
-    }
-    byte_at(policy, USER_DEFINED) == 0
+    handle != 0 && byte_at(policy, USER_DEFINED) == 0
 }
 
 // The PIN that the chip opened for method 10. The public key stands before it.

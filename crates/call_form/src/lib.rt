@@ -27,17 +27,13 @@ const LENGTH_BYTES: usize = 2;
 pub fn is_session_call(c: &[u8]) -> bool
     ensures { result ≡ test (is_session_call c.now) }
 {
-    let m = byte_at(c, METHOD);
-    let posts = (m == 50) | ((m == 51) | false);
-    let makes = (m == 8) | ((m == 9) | ((m == 10) | ((m == 12) | posts)));
-    (m == 3) | ((m == 5) | makes)
+    matches!(byte_at(c, METHOD), 3 | 5 | 8..=10 | 12 | 50 | 51)
 }
 
 pub fn is_user_call(c: &[u8]) -> bool
     ensures { result ≡ test (is_user_call c.now) }
 {
-    let m = byte_at(c, METHOD);
-    (m == 80) | ((m == 82) | ((m == 83) | ((m == 100) | false)))
+    matches!(byte_at(c, METHOD), 80 | 82 | 83 | 100)
 }
 
 pub fn is_known(c: &[u8]) -> bool
@@ -126,18 +122,17 @@ pub fn is_key(q: KeyFields, c: &[u8], chip: &[u8]) -> bool
 }
 
 // 12 setCertificatePath. Each of n strings from place k on has at least one byte.
+#[tactic(auto, using(crate::proofs::Filled::filled_more), unfolding(paper::specs::Bytes::behind))]
 pub fn are_filled(c: &[u8], k: u16, n: u8) -> bool
     ensures { result ≡ test (filled_at n k c.now) }
 {
-    let mut at = k as usize;
-    let mut left = n;
-    while 0 < left {
+    let mut at = usize::from(k);
+    for _ in 0..n {
         let size = two_at(c, at);
         if size == 0 {
             return false;
         }
-        at = at + LENGTH_BYTES + size;
-        left -= 1;
+        at += LENGTH_BYTES + size;
     }
     true
 }

@@ -1,4 +1,4 @@
-// A reader holds a call and knows its place in it. It is thin: each function takes it apart and leaves the work to a function on
+// A reader holds a call and knows its place in it. It is thin: each method takes it apart and leaves the work to a function on
 // the slice and the place. Whoever has a plain slice calls `string_in`, whose promise says nothing of a reader.
 
 #![tactic(auto)]
@@ -12,23 +12,25 @@ pub struct Reader<'a> {
     pub at: usize,
 }
 
-// The reader of a call, at this place.
-pub fn new<'a>(call: &'a [u8], at: usize) -> Reader<'a>
-    ensures { (result.call ≡ call.entry) × (result.at ≡ at) }
-{
-    Reader { call, at }
-}
+impl<'a> Reader<'a> {
+    // The reader of a call, at this place.
+    pub fn new(call: &'a [u8], at: usize) -> Self
+        ensures { (result.call ≡ call.entry) × (result.at ≡ at) }
+    {
+        Self { call, at }
+    }
 
-// The string at the reader's place, as a part of the call.
-pub fn string<'a>(r: Reader<'a>) -> &'a [u8]
-    ensures { result.now ≡ string_at r.entry.at r.entry.call.now }
-{
-    store_records::string_at(r.call, r.at)
+    // The string at the reader's place, as a part of the call.
+    pub fn string(self) -> &'a [u8]
+        ensures { result.now ≡ string_at self.entry.at self.entry.call.now }
+    {
+        store_records::string_at(self.call, self.at)
+    }
 }
 
 // The string that stands at this place of a call, as a part of it.
 pub fn string_in<'a>(call: &'a [u8], at: usize) -> &'a [u8]
     ensures { result.now ≡ string_at at call.now }
 {
-    string(new(call, at))
+    Reader::new(call, at).string()
 }

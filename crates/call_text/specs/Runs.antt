@@ -1,4 +1,4 @@
--- What the loops over a PIN carry from byte to byte.
+-- What is asked of a byte of a PIN, and of a byte and the one before it.
 use Rattle.std.specs.Prelude.{Bool, true, ◌||◌, cond, List, [], ◌∷◌, ℕ, ◌+◌, ◌-◌, eqb}
 use Rattle.paper.specs.Bytes.{within}
 use Rattle.paper.specs.Text.{leads, rising_from, falling_from}

@@ -1,29 +1,55 @@
--- Bytes written over a record: one byte more, none past the end, and a string with zeros behind it.
+-- Bytes written over a record: none past the end, and a string with zeros behind it.
 use mathlib.Core.Path.{◌≡◌, refl, sym, ap, ◌∙◌}
-use mathlib.Core.List.{List, [], ◌∷◌, ◌++◌, append-nil}
-use Prim.Native.Nat.{ℕ, zero, suc, ◌+◌, ◌-◌, ◌%◌, ◌≤◌, ◌<◌}
-use native.Mathlib.Numerals.{add-one}
+use mathlib.Core.List.{List, [], ◌∷◌, ◌++◌, append_assoc, append-nil}
+use Prim.Native.Nat.{ℕ, zero, suc, ◌+◌, ◌-◌, ◌/◌, ◌%◌, ◌≤◌, ◌<◌, min}
 use native.Mathlib.Omega.{arith}
-use lib.ListN.{length, get_or, drop, set, drop_of_length-le}
-use lib.Seq.{sets, drop-cons, set_out, set-set, set_comm}
+use lib.ListN.{length, take, drop, set, length-set, take-append-drop}
+use lib.Seq.{sets, sets-eq, take_all, length-take-le, drop-drop, set_out, set-set, set_comm}
+use borrow.Rule.Slice.PartMut.{put_mid}
 use Rattle.paper.specs.Bytes.{over, zeros_of}
 use Rattle.paper.specs.Users.{new_pin}
-
-pub over-step : (i j : ℕ) (b r : List ℕ) → j < length b → over i (drop j b) r ≡ over (i + 1) (drop (j + 1) b) (set r i (get_or b j 0))
-unfolding over
-over-step i j b r h = rw (drop-cons b j 0 h, add-one i, add-one j)
-
-pub over_end : (i j : ℕ) (b r : List ℕ) → length b ≤ j → over i (drop j b) r ≡ r
-unfolding over
-over_end i j b r h = rw (drop_of_length-le b h)
+use Rattle.paper.specs.Form.{◌=<◌}
+use Rattle.paper.proofs.Forms.{cases}
 
 sets_past : (b r : List ℕ) (i : ℕ) → length r ≤ i → sets r i b ≡ r
 sets_past [] r i h = refl
 sets_past (x ∷ b) r i h = rw (set_out r i x h) (sets_past b r (suc i) (omega arith))
 
-pub over_past : (i : ℕ) (b r : List ℕ) → length r ≤ i → over i b r ≡ r
+-- what would stand past the end may be left out
+sets_cut : (b r : List ℕ) (k n : ℕ) → length r ≤ k + n → sets r k (take n b) ≡ sets r k b
+sets_cut [] r k zero h = refl
+sets_cut [] r k (suc n) h = refl
+sets_cut (x ∷ b) r k zero h = sym (sets_past (x ∷ b) r k (omega arith))
+sets_cut (x ∷ b) r k (suc n) h = sets_cut b (set r k x) (suc k) n (omega (arith, length-set r k x))
+
+-- as many bytes as fit, copied to the place or to the end
+pub copied_in : (b r : List ℕ) (k a n : ℕ) → length r ≡ 256 → a ≡ min k 256 → n ≡ min (length b) (256 - a) → put_mid a (a + n - a) r (take n b) ≡ over k b r
 unfolding over
-over_past i b r h = sets_past b r i h
+copied_in b r k a n l ea en = cases (k =< 256) near far
+  where
+    t : take n b ≡ take (256 - a) b
+    t = cases (length b =< 256 - a) (λ h. take_all n b (omega (arith, en)) ∙ sym (take_all (256 - a) b h)) (λ h. let e : n ≡ 256 - a = omega (arith, en) in rw e)
+
+    long : length (take n b) ≡ n
+    long = length-take-le n b (omega (arith, en))
+
+    near : k ≤ 256 → put_mid a (a + n - a) r (take n b) ≡ sets r k b
+    near h =
+        let e : a ≡ k = omega (arith, ea) in
+        let m : a + n - a ≡ n = omega arith in
+        let f : k + length (take n b) ≤ length r = omega (arith, long, en, ea, l) in
+        let q = rw long at (sets-eq (take n b) r k f) in
+        rw (m, e, drop-drop) (sym (append_assoc (take k r) (take n b) (drop (k + n) r)) ∙ sym q ∙ (ap (λ (x : List ℕ). sets r k x) t ∙ sets_cut b r k (256 - a) (omega (arith, ea, l))))
+
+    far : (k ≤ 256 → ⊥) → put_mid a (a + n - a) r (take n b) ≡ sets r k b
+    far h =
+        let e : a ≡ 256 = omega (arith, ea) in
+        let z : n ≡ 0 = omega (arith, ea, en) in
+        rw (e, z) (take-append-drop 256 r ∙ sym (sets_past b r k (omega (arith, l))))
+
+-- the two low bytes of a number are those of its rest by 65536
+pub two_low : (n : ℕ) → (n % 65536 / 256 % 256 ≡ n / 256 % 256) × (n % 65536 % 256 ≡ n % 256)
+two_low n = (omega arith, omega arith)
 
 -- a byte before those that are written may be written first
 set_before : (b r : List ℕ) (k j x : ℕ) → k < j → set (sets r j b) k x ≡ sets (set r k x) j b

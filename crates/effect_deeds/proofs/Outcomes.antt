@@ -1,4 +1,4 @@
--- Each record's number, carried out, is what the paper makes of the record.
+-- Each record's fate, carried out, is what the paper makes of the record.
 use mathlib.Core.Bool.{Bool, true, false, cond, ◌||◌}
 use mathlib.Core.Path.{◌≡◌, refl, sym, ap, ◌∙◌}
 use mathlib.Core.List.{List, [], ◌∷◌}
@@ -21,6 +21,8 @@ use Rattle.laws.proofs.Bytes.{byte-over_other, four-over_other}
 use Rattle.laws.proofs.Choice.{either, same_test}
 use Rattle.laws.proofs.Lists.{sought, sought_byte}
 use Rattle.effect_plan.specs.Sets.{keys_of}
+use Rattle.effect_plan.specs.declared.Fate.{Fate}
+use Rattle.effect_plan.specs.declared.Fate.TheVariants.{Stays, Freed, KeyCleared, PukCleared, MadeStale, Shut, NewPin, NewPinCleared}
 use Rattle.effect_plan.specs.Fate.{fate}
 use Rattle.effect_deeds.specs.Deeds.{done}
 use Rattle.effect_deeds.specs.declared.Pinned.{Pinned}
@@ -35,7 +37,7 @@ module _ (v : List ℕ) (rs : List Rec) (r : Rec) where
   unfolding done fate effect
   effect-done d u = go (test (goes d rs r)) (test (key_unlocked u r)) (test (puk_unlocked u rs r)) (test (pending_on d r) || test (pending_on u r))
     where
-      go : (a b c e : Bool) → done v (cond a 1 (cond b 2 (cond c 3 (cond e 4 0)))) r ≡ cond a zeros (cond b (clear 2 r) (cond c (clear 3 r) (cond e (stale r) r)))
+      go : (a b c e : Bool) → done v (cond a Freed (cond b KeyCleared (cond c PukCleared (cond e MadeStale Stays)))) r ≡ cond a zeros (cond b (clear 2 r) (cond c (clear 3 r) (cond e (stale r) r)))
       go true b c e = refl
       go false true c e = refl
       go false false true e = refl
@@ -46,7 +48,7 @@ module _ (v : List ℕ) (rs : List Rec) (r : Rec) where
   unfolding done close_fate closing sealed
   close_done t = go (test (bears t r)) (test (kind r equals PENDING)) (test (kind r equals SESSION)) (test (has_key t rs)) (fate (holds t 50 rs) (holds t 51 rs) rs r) (effect (holds t 50 rs) (holds t 51 rs) rs r) (effect-done (holds t 50 rs) (holds t 51 rs))
     where
-      go : (a b c e : Bool) (n : ℕ) (w : Rec) → done v n r ≡ w → done v (cond a (cond b 1 (cond c (cond e 5 1) 0)) n) r ≡ cond a (cond b zeros (cond c (cond e (shut r) zeros) r)) w
+      go : (a b c e : Bool) (n : Fate) (w : Rec) → done v n r ≡ w → done v (cond a (cond b Freed (cond c (cond e Shut Freed) Stays)) n) r ≡ cond a (cond b zeros (cond c (cond e (shut r) zeros) r)) w
       go true true c e n w q = refl
       go true false true true n w q = refl
       go true false true false n w q = refl
@@ -91,7 +93,7 @@ module _ (g : Pinned) (v : List ℕ) (rs : List Rec) (r : Rec) where
   unfolding done pin_fate repinned only
   pin_given e = rw (e, new_key v r g) (go (test (itself g r)) (new_kind v r ∙ given-kind ((both (given g r)).0 e)))
     where
-      go : (k : Bool) → kind (new_pin v r) ≡ KEY → done v (cond k 7 6) r ≡ only aimed stale (cond k (clear 2 (new_pin v r)) (new_pin v r))
+      go : (k : Bool) → kind (new_pin v r) ≡ KEY → done v (cond k NewPinCleared NewPin) r ≡ only aimed stale (cond k (clear 2 (new_pin v r)) (new_pin v r))
       go true f = rw (not_aimed (clear 2 (new_pin v r)) (clear-kind (new_pin v r) ∙ f))
       go false f = rw (not_aimed (new_pin v r) f)
 
@@ -103,7 +105,7 @@ module _ (g : Pinned) (v : List ℕ) (rs : List Rec) (r : Rec) where
       no_key true b q = q
       no_key false b q = refl
 
-      go : (b : Bool) → done v (cond b 4 0) r ≡ cond b (stale r) r
+      go : (b : Bool) → done v (cond b MadeStale Stays) r ≡ cond b (stale r) r
       go true = refl
       go false = refl
 

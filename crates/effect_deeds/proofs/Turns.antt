@@ -1,8 +1,8 @@
--- A loop that edits record after record by its number in a plan: what is done, and what is to do.
+-- A loop that edits record after record by its fate in a plan: what is done, and what is to do.
 use mathlib.Core.Bool.{true}
 use mathlib.Core.Path.{◌≡◌, refl, sym, ap, ◌∙◌}
 use mathlib.Core.List.{List, [], ◌∷◌, ◌++◌, map, append_assoc, append-nil}
-use Prim.Native.Nat.{ℕ, suc, ◌+◌, ◌/◌, ◌≤◌, ◌<◌}
+use Prim.Native.Nat.{ℕ, suc, ◌+◌, ◌≤◌, ◌<◌}
 use native.Mathlib.Numerals.{add-one}
 use native.Mathlib.Omega.{arith}
 use lib.ListN.{length, get_or, take, drop, set, drop_of_length-le}
@@ -12,6 +12,11 @@ use Rattle.paper.specs.Records.{records, zeros}
 use Rattle.store_records.specs.View.{rest, Becomes}
 use Rattle.store_records.proofs.Views.{length-records, becomes, rest_kept}
 use Rattle.store_edits.proofs.Puts.{edit_at, unchanged}
+use Rattle.effect_plan.specs.declared.Fate.{Fate}
+use Rattle.effect_plan.specs.declared.Fate.TheVariants.{Stays}
+use Rattle.std.proofs.Math.ListN.{get_or-map}
+use Rattle.paper.specs.Bytes.{byte}
+use Rattle.effect_plan.specs.Fate.{fate_of, planned}
 use Rattle.effect_deeds.specs.Deeds.{each_at, done}
 
 -- a record changed by value and put back
@@ -19,10 +24,10 @@ pub turned-at : (f : Rec → Rec) (s : List ℕ) (i : ℕ) (r t : List ℕ) → 
     → Becomes (set (records s) i (f (get_or (records s) i []))) s t
 turned-at f s i r t e w = (unfold only in edit_at (λ x. say true) f s i r t refl e w)
 
--- by 0 a record stays
-pub stayed_at : (v : List ℕ) (n : ℕ) (s : List ℕ) (i : ℕ) → n ≡ 0 → Becomes (set (records s) i (done v n (get_or (records s) i []))) s s
+-- a record that stays is not touched
+pub stayed_at : (v : List ℕ) (f : Fate) (s : List ℕ) (i : ℕ) → f ≡ Stays → Becomes (set (records s) i (done v f (get_or (records s) i []))) s s
 unfolding done
-stayed_at v n s i e = rw (e, set-get_or (records s) i []) (unchanged s)
+stayed_at v f s i e = rw (e, set-get_or (records s) i []) (unchanged s)
 
 module _ (g : ℕ → Rec → Rec) (rs : List Rec) (i : ℕ) where
   all_done : length rs ≤ i → take i rs ++ each_at g i (drop i rs) ≡ rs
@@ -42,18 +47,18 @@ pub record Turns (g : ℕ → Rec → Rec) (s₀ s : List ℕ) (i : ℕ) : Type 
   pub same : length s ≡ length s₀
 
 module _ {g : ℕ → Rec → Rec} {s₀ s : List ℕ} {i : ℕ} (inv : Turns g s₀ s i) where
-  pub turns_step : (t : List ℕ) → i < length s₀ / 256 → Becomes (set (records s) i (g i (get_or (records s) i []))) s t → length t ≡ length s → Turns g s₀ t (i + 1)
+  pub turns_step : (t : List ℕ) → i < length (records s₀) → Becomes (set (records s) i (g i (get_or (records s) i []))) s t → length t ≡ length s → Turns g s₀ t (i + 1)
   turns_step t h w l =
-      let b : i < length (records s) = omega (arith, length-records s, inv.same) in
+      let b : i < length (records s) = omega (arith, length-records s, length-records s₀, inv.same) in
       record {
         left = rw w.view (inv.left ∙ one-done g (records s) i b);
         tail = rest_kept w ∙ inv.tail;
         same = l ∙ inv.same;
       }
 
-  pub turns_done : length s₀ / 256 ≤ i → Becomes (each_at g 0 (records s₀)) s₀ s
+  pub turns_done : length (records s₀) ≤ i → Becomes (each_at g 0 (records s₀)) s₀ s
   turns_done h =
-      let b : length (records s) ≤ i = omega (arith, length-records s, inv.same) in
+      let b : length (records s) ≤ i = omega (arith, length-records s, length-records s₀, inv.same) in
       becomes (each_at g 0 (records s₀)) s₀ s (sym (inv.left ∙ all_done g (records s) i b)) inv.tail
 
 -- an edit that goes by the place comes to one that does not
@@ -64,3 +69,8 @@ each_map g f i (r ∷ rs) h =
     let e : i + 0 ≡ i = omega arith in
     rw (each_map g f (i + 1) rs (λ j l. let q : i + suc j ≡ (i + 1) + j = omega arith in rw q at (h (suc j) (omega arith))))
     (ap (λ (x : Rec). x ∷ map f rs) (rw e at (h 0 (omega arith))))
+
+-- what a plan of numbers says of a record is the fate of its number there; past the end both stay
+pub numbers_planned : (p : List ℕ) (i : ℕ) → planned i (map fate_of p) ≡ fate_of (byte i p)
+unfolding planned byte
+numbers_planned p i = get_or-map fate_of p i 0

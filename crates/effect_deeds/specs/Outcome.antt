@@ -1,4 +1,4 @@
--- What becomes of every record at once, and the number for each that says so.
+-- What becomes of every record at once, and the fate of each that says so.
 use Rattle.std.specs.Prelude.{true, cond, ◌≡◌, List, [], ℕ, ◌≤◌, ◌<◌, leb, length, get_or}
 use Rattle.paper.specs.Limits.{most_records}
 use Rattle.paper.specs.Form.{Rec, Form, ◌equals◌, say, ◌and◌, ◌or◌, some, test, only}
@@ -7,18 +7,19 @@ use Rattle.paper.specs.Pin.{clear}
 use Rattle.paper.specs.Closing.{holds, has_key, effect, closing, stale}
 use Rattle.paper.specs.Users.{new_pin}
 use Rattle.effect_plan.specs.Sets.{keys_of}
-use Rattle.effect_plan.specs.Fate.{STAYS, FREED, MADE_STALE, fate}
-use Rattle.effect_deeds.specs.Deeds.{SHUT, NEW_PIN, NEW_PIN_CLEARED}
+use Rattle.effect_plan.specs.declared.Fate.{Fate}
+use Rattle.effect_plan.specs.declared.Fate.TheVariants.{Stays, Freed, MadeStale, Shut, NewPin, NewPinCleared}
+use Rattle.effect_plan.specs.Fate.{fate}
 use Rattle.effect_deeds.specs.declared.Pinned.{Pinned}
 use Rattle.effect_deeds.specs.declared.Span.{Span}
 use Rattle.effect_deeds.specs.declared.Deed.{Deed}
 use Rattle.effect_deeds.specs.declared.Deed.TheVariants.{Effect, Close, Change}
 
--- At the close of session t: its own pendings are freed, and itself is shut, or freed if it has no key. Another's record has number n.
-unfoldable pub close_fate : ℕ → ℕ → List Rec → Rec → ℕ
-close_fate t n rs r =
+-- At the close of session t: its own pendings are freed, and itself is shut, or freed if it has no key. Another's record has fate f.
+unfoldable pub close_fate : ℕ → Fate → List Rec → Rec → Fate
+close_fate t f rs r =
     cond (test (bears t r))
-    (cond (test (kind r equals PENDING)) FREED (cond (test (kind r equals SESSION)) (cond (test (has_key t rs)) SHUT FREED) STAYS)) n
+    (cond (test (kind r equals PENDING)) Freed (cond (test (kind r equals SESSION)) (cond (test (has_key t rs)) Shut Freed) Stays)) f
 
 -- The paper's change of a PIN by the numbers of the key and its policy: who gets it, and what becomes of every record.
 abbrev pub pinned_by : Rec → Rec → Pinned
@@ -50,12 +51,12 @@ pub record Spans (g : Pinned) (rs : List Rec) (s : Span) : Type 0 where
   pub from : (j : ℕ) → j < length rs → test (given g (get_or rs j [])) ≡ true → s.low ≤ own (get_or rs j [])
   pub to : (j : ℕ) → j < length rs → test (given g (get_or rs j [])) ≡ true → own (get_or rs j []) ≤ s.high
 
-unfoldable pub pin_fate : Pinned → List Rec → Rec → ℕ
+unfoldable pub pin_fate : Pinned → List Rec → Rec → Fate
 pin_fate g rs r =
-    cond (test (given g r)) (cond (test (itself g r)) NEW_PIN_CLEARED NEW_PIN)
-    (cond (test (kind r equals PENDING and some rs (given_as g (parent r)))) MADE_STALE STAYS)
+    cond (test (given g r)) (cond (test (itself g r)) NewPinCleared NewPin)
+    (cond (test (kind r equals PENDING and some rs (given_as g (parent r)))) MadeStale Stays)
 
-abbrev pub deed_fate : Deed → List Rec → Rec → ℕ
+abbrev pub deed_fate : Deed → List Rec → Rec → Fate
 deed_fate (Effect ds us) rs = fate (keys_of ds rs) (keys_of us rs) rs
 deed_fate (Close t) rs = λ r. close_fate t (fate (holds t 50 rs) (holds t 51 rs) rs r) rs r
 deed_fate (Change g) rs = pin_fate g rs

@@ -1,24 +1,27 @@
 -- Marks and homes: a mark says whether the key is of the set, and where no key of the set is at home nothing goes and no PUK is unlocked.
-use mathlib.Core.Bool.{Bool, true, false, cond, ◌&&◌, ◌||◌, and-false}
+use mathlib.Core.Bool.{Bool, true, false, cond, not, beq, ◌&&◌, ◌||◌, and-false}
 use mathlib.Core.Path.{◌≡◌, refl, sym, ◌∙◌}
 use mathlib.Core.List.{List, [], ◌∷◌}
-use Prim.Native.Nat.{ℕ, suc, ◌+◌, ◌/◌, ◌≤◌, ◌<◌}
+use Prim.Native.Nat.{ℕ, suc, ◌+◌, ◌≤◌, ◌<◌}
 use native.Mathlib.Omega.{arith}
-use borrow.Author.Tests.{eqb-true, eq-eqb, ne_eqb}
+use borrow.Author.Tests.{eq-eqb, ne_eqb}
 use lib.Dec.{eqb}
 use lib.ListN.{length, get_or}
+use Rattle.std.proofs.lemmas.List.{get_or_past}
+use Rattle.std.specs.Int.{from_bool}
 use Rattle.paper.specs.Bytes.{byte}
-use Rattle.paper.specs.Form.{Rec, Form, ◌equals◌, ◌and◌, test, exists}
+use Rattle.paper.specs.Form.{Rec, Form, ◌equals◌, ◌=<◌, ◌and◌, test, exists}
 use Rattle.paper.specs.Records.{records, kind, own, session, parent, state, SESSION, CLOSED, PUK, POLICY, KEY, PENDING}
 use Rattle.paper.specs.Closing.{Keys as Set, key_goes, policy_goes, puk_goes, session_goes, key_unlocked, puk_unlocked}
 use Rattle.paper.proofs.Forms.{both, cases, contrary}
-use Rattle.store_records.proofs.Views.{length-records}
 use Rattle.effect_plan.specs.declared.Homes.{Homes}
-use Rattle.effect_plan.specs.declared.Homes.TheVariants.{Nowhere, Few}
-use Rattle.effect_plan.specs.declared.Under.TheVariants.{Policy}
+use Rattle.effect_plan.specs.declared.Homes.TheVariants.{Few}
+use Rattle.effect_plan.specs.declared.Under.TheVariants.{Policy, Session}
 use Rattle.effect_plan.specs.declared.Lot.TheVariants.{Unlocked}
+use Rattle.effect_plan.specs.declared.Under.{Under}
+use Rattle.effect_plan.specs.declared.Fate.TheVariants.{Stays, Freed, KeyCleared, PukCleared, MadeStale}
 use Rattle.effect_plan.specs.Fate.{fate}
-use Rattle.effect_plan.specs.Sets.{mark, Marked, homes_of, Widened, Extended, AtHome, AllHome, home_of, under, policy_so, parent_goes}
+use Rattle.effect_plan.specs.Sets.{mark, Marked, homes_of, Widened, Extended, AtHome, AllHome, home_of, under, turned, policy_so, parent_goes}
 use Rattle.effect_plan.proofs.Scans.{puk_unlocked_lem}
 
 pub never_true : (b : Bool) → (b ≡ true → ⊥) → b ≡ false
@@ -33,21 +36,25 @@ mark-is false = refl
 
 -- a record's mark, by its kind
 module _ (d : Set) (x : Rec) where
-  pub mark_key : eqb (kind x) KEY ≡ true → ◌≡◌ {A = ℕ} (cond (d (own x)) 1 0) (mark d x)
+  pub mark_key : kind x ≡ KEY → from_bool (d (own x)) ≡ mark d x
   unfolding mark
-  mark_key e = rw (eqb-true (kind x) KEY e) (go (d (own x)))
+  mark_key e = rw e (go (d (own x)))
     where
-      go : (a : Bool) → ◌≡◌ {A = ℕ} (cond a 1 0) (cond (a || false) 1 0)
+      go : (a : Bool) → from_bool a ≡ cond (a || false) 1 0
       go true = refl
       go false = refl
 
-  pub mark_pending : eqb (kind x) PENDING ≡ true → ◌≡◌ {A = ℕ} (cond (d (parent x)) 1 0) (mark d x)
+  pub mark_pending : kind x ≡ PENDING → from_bool (d (parent x)) ≡ mark d x
   unfolding mark
-  mark_pending e = rw (eqb-true (kind x) PENDING e)
+  mark_pending e = rw e (go (d (parent x)))
+    where
+      go : (a : Bool) → from_bool a ≡ cond a 1 0
+      go true = refl
+      go false = refl
 
-  pub mark_other : eqb (kind x) KEY ≡ false → eqb (kind x) PENDING ≡ false → 0 ≡ mark d x
+  pub mark_other : (kind x ≡ KEY → ⊥) → (kind x ≡ PENDING → ⊥) → 0 ≡ mark d x
   unfolding mark
-  mark_other e f = rw (e, f)
+  mark_other e f = rw (ne_eqb (kind x) KEY e, ne_eqb (kind x) PENDING f)
 
 -- a marked key is one of the set
 pub marked_key : {d : Set} {rs : List Rec} {m : List ℕ} → Marked d rs m → (j : ℕ) → j < length rs
@@ -59,22 +66,44 @@ marked_key {d} {rs} {m} w j l = rw (w.at j l, mark-is) (cases (kind (get_or rs j
     go true = refl
     go false = refl
 
+-- a key of a policy or a session is a record of the store
+pub key_there : (u : Under) (rs : List Rec) (i : ℕ) → test (under u (get_or rs i [])) ≡ true → i < length rs
+unfolding byte
+key_there u rs i t = cases (length rs =< i) (λ h. absurd (none u (rw (get_or_past rs i [] h) at t))) (λ n. omega arith)
+  where
+    none : (v : Under) → test (under v []) ≡ true → ⊥
+    none (Policy p s) e = contrary (sym e)
+    none (Session s) e = contrary (sym e)
+
+-- a key that goes where it is asked whether it goes, or stays where it is asked whether it stays
+pub gone_or_kept : (gone : Bool) (φ : Form) → beq (test φ) gone ≡ test (turned gone φ)
+gone_or_kept true φ = go (test φ)
+  where
+    go : (b : Bool) → beq b true ≡ b
+    go true = refl
+    go false = refl
+gone_or_kept false φ = go (test φ)
+  where
+    go : (b : Bool) → beq b false ≡ not b
+    go true = refl
+    go false = refl
+
 -- what becomes of a record, by its kind and its marks
 module _ (d u : Set) (rs : List Rec) (x : Rec) where
-  pub fate_key : (a b : ℕ) → kind x ≡ KEY → a ≡ mark d x → b ≡ mark u x → ◌≡◌ {A = ℕ} (cond (eqb a 1) 1 (cond (eqb b 1) 2 0)) (fate d u rs x)
+  pub fate_key : (a b : ℕ) → kind x ≡ KEY → a ≡ mark d x → b ≡ mark u x → cond (eqb a 1) Freed (cond (eqb b 1) KeyCleared Stays) ≡ fate d u rs x
   unfolding fate mark
   fate_key a b e f g = rw (f, g, e) (go (d (own x)) (u (own x)))
     where
-      go : (a b : Bool) → ◌≡◌ {A = ℕ} (cond (eqb (cond (a || false) 1 0) 1) 1 (cond (eqb (cond (b || false) 1 0) 1) 2 0)) (cond (a || false) 1 (cond b 2 0))
+      go : (a b : Bool) → cond (eqb (cond (a || false) 1 0) 1) Freed (cond (eqb (cond (b || false) 1 0) 1) KeyCleared Stays) ≡ cond (a || false) Freed (cond b KeyCleared Stays)
       go true b = refl
       go false true = refl
       go false false = refl
 
-  pub fate_pending : (a b : ℕ) → kind x ≡ PENDING → a ≡ mark d x → b ≡ mark u x → ◌≡◌ {A = ℕ} (cond (eqb a 1 || eqb b 1) 4 0) (fate d u rs x)
+  pub fate_pending : (a b : ℕ) → kind x ≡ PENDING → a ≡ mark d x → b ≡ mark u x → cond (eqb a 1 || eqb b 1) MadeStale Stays ≡ fate d u rs x
   unfolding fate mark
   fate_pending a b e f g = rw (f, g, e, mark-is, mark-is)
 
-  pub fate-parent : (kind x ≡ KEY → ⊥) → (kind x ≡ PENDING → ⊥) → ◌≡◌ {A = ℕ} (cond (test (parent_goes d rs x)) 1 (cond (test (puk_unlocked u rs x)) 3 0)) (fate d u rs x)
+  pub fate-parent : (kind x ≡ KEY → ⊥) → (kind x ≡ PENDING → ⊥) → cond (test (parent_goes d rs x)) Freed (cond (test (puk_unlocked u rs x)) PukCleared Stays) ≡ fate d u rs x
   unfolding fate
   fate-parent e f = rw (ne_eqb (kind x) KEY e, ne_eqb (kind x) PENDING f)
 
@@ -102,9 +131,6 @@ module _ (a b c s : ℕ) where
       last true y = refl
       last false y = refl
 
-pub from_nowhere : (s : ℕ) → Widened s (homes_of Nowhere) (homes_of (Few s s s))
-from_nowhere s = record { kept = λ k q. contrary (sym q); added = rw (eq-eqb s s refl) }
-
 -- the sessions of the keys among the first i records
 abbrev pub HomesTo : List ℕ → List ℕ → Homes → ℕ → Type 0
 HomesTo t m hs i = (d : Set) → Marked d (records t) m → (j : ℕ) → j < i → j < length (records t) → test (key_unlocked d (get_or (records t) j [])) ≡ true → homes_of hs (session (get_or (records t) j [])) ≡ true
@@ -113,8 +139,8 @@ pub home_next : (t m : List ℕ) (hs gs : Homes) (i : ℕ) → HomesTo t m hs i
     → Extended (eqb (byte i m) 1 && eqb (kind (get_or (records t) i [])) KEY) (session (get_or (records t) i [])) (homes_of hs) (homes_of gs) → HomesTo t m gs (i + 1)
 home_next t m hs gs i inv w = λ d k j l n q. cases (j equals i) (λ f. rw f (w.added (marked_key k i (rw f at n) ∙ rw f at q))) (λ f. w.kept _ (inv d k j (omega arith) n q))
 
-pub homes_done : (t m : List ℕ) (hs : Homes) (i : ℕ) → HomesTo t m hs i → length t / 256 ≤ i → AllHome (records t) m hs
-homes_done t m hs i inv h = λ d k. record { at = λ j l q. inv d k j (omega (arith, length-records t)) l q }
+pub homes_done : (t m : List ℕ) (hs : Homes) (i : ℕ) → HomesTo t m hs i → length (records t) ≤ i → AllHome (records t) m hs
+homes_done t m hs i inv h = λ d k. record { at = λ j l q. inv d k j (omega arith) l q }
 
 -- ---- where no key of the set is at home
 

@@ -1,29 +1,48 @@
--- A loop that looks for a record: what is left of the search at a place and one place further.
-use mathlib.Core.Bool.{Bool, true, false, ◌&&◌, ◌||◌}
-use mathlib.Core.Path.{◌≡◌, refl, ap}
+-- Loops over the records, and searches by place.
+use mathlib.Core.Bool.{Bool, true, false, ◌&&◌}
+use mathlib.Core.Path.{◌≡◌, refl, ap, ◌∙◌}
 use mathlib.Core.List.{List, [], ◌∷◌}
-use Prim.Native.Nat.{ℕ, ◌+◌, ◌/◌, ◌≤◌, ◌<◌}
-use lib.ListN.{length, get_or, drop}
+use Prim.Native.Nat.{ℕ, suc, ◌+◌, ◌<◌}
+use lib.ListN.{length, get_or}
 use lib.Dec.{eqb}
-use Rattle.paper.specs.Form.{Rec, Form, test, some, exists}
+use native.Mathlib.Omega.{arith}
+use Rattle.std.specs.List.{list_any, range_with_len}
+use Rattle.paper.specs.Form.{Rec, test, some, exists}
 use Rattle.paper.specs.Records.{records, kind, POLICY, KEY, PUK, own, session, parent}
 use Rattle.paper.specs.Closing.{Keys as Set, puk_unlocked}
-use Rattle.store_records.proofs.Views.{records_from, records_end}
+use Rattle.std.proofs.lemmas.Iterator.Consumers.{YieldsList-at, YieldsList-turn, YieldsList-end}
+use Rattle.std.proofs.lemmas.List.{get_or_default}
+use Rattle.std.specs.Iterator.{Yields}
+use Rattle.std.specs.Slice.Iter.{chunks_exact_steps}
+use Rattle.std.specs.declared.slice.ChunksExact.{ChunksExact}
+use Rattle.std.specs.declared.option.Option.{Option}
+use Rattle.std.specs.declared.option.Option.TheVariants.{Some, None}
+use Rattle.store_records.specs.View.{Shows}
+use Rattle.store_records.proofs.Shown.{yields}
+use denote.Ref.{Bor}
 use Rattle.effect_plan.specs.declared.Lot.TheVariants.{Unlocked}
 use Rattle.effect_plan.specs.Sets.{policy_so}
 
-module _ (φ : Rec → Form) (s : List ℕ) (i : ℕ) where
-  pub some_split : i < length s / 256 → test (some (drop i (records s)) φ) ≡ (test (φ (get_or (records s) i [])) || test (some (drop (i + 1) (records s)) φ))
-  some_split h = rw (records_from s i h)
+-- a loop over the records, of which xs are seen: the next one, and the end
+module _ {s : List ℕ} {first it : ChunksExact ℕ} (t u : ChunksExact ℕ) {r : Option (Bor (List ℕ))} (xs : List (Bor (List ℕ))) (h : Shows first s) (e : it ≡ first)
+    (y : Yields chunks_exact_steps it xs t) (n : chunks_exact_steps t r u) where
+  pub next_record : (x : Bor (List ℕ)) → r ≡ Some x → (length xs < length (records s)) × (x.now ≡ get_or (records s) (length xs) [])
+  next_record x p =
+      let w = YieldsList-turn (YieldsList-at e (yields s first h)) xs t y r u x p n in
+      (w.0, w.1 ∙ get_or_default (records s) (length xs) x.now [] w.0)
 
-  pub some_here : i < length s / 256 → test (φ (get_or (records s) i [])) ≡ true → test (some (drop i (records s)) φ) ≡ true
-  some_here h t = rw (records_from s i h, t)
+  pub no_more : r ≡ None → length xs ≡ length (records s)
+  no_more p = (YieldsList-end (YieldsList-at e (yields s first h)) xs t y r u p n).1
 
-  pub some_next : i < length s / 256 → test (φ (get_or (records s) i [])) ≡ false → test (some (drop i (records s)) φ) ≡ test (some (drop (i + 1) (records s)) φ)
-  some_next h t = rw (records_from s i h, t)
+-- some record passes a test that asks for it by its place
+any-from : (q : Rec → Bool) (rs ts : List Rec) (a : ℕ) → ((j : ℕ) → get_or rs (a + j) [] ≡ get_or ts j []) → list_any (λ i. q (get_or rs i [])) (range_with_len a (length ts)) ≡ exists q ts
+any-from q rs [] a h = refl
+any-from q rs (t ∷ ts) a h =
+    let z : a + 0 ≡ a = omega arith in
+    rw (rw z at (h 0), any-from q rs ts (a + 1) (λ j. let e : (a + 1) + j ≡ a + suc j = omega arith in rw e (h (suc j))))
 
-  pub some_end : length s / 256 ≤ i → test (some (drop i (records s)) φ) ≡ false
-  some_end h = rw (records_end s i h)
+pub any-places : (q : Rec → Bool) (rs : List Rec) → list_any (λ i. q (get_or rs i [])) (range_with_len 0 (length rs)) ≡ exists q rs
+any-places q rs = any-from q rs rs 0 (λ j. let e : 0 + j ≡ j = omega arith in rw e)
 
 -- tests that agree of every record agree of some record
 pub exists-same : (p q : Rec → Bool) → ((x : Rec) → p x ≡ q x) → (rs : List Rec) → exists p rs ≡ exists q rs

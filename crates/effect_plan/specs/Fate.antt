@@ -1,40 +1,51 @@
--- What becomes of a record where keys are removed and unlocked, as a number: it stays, is freed, its count at byte 2 or 3 becomes 0,
--- or it is marked stale. The order is that of the paper's `effect`.
-use Rattle.std.specs.Prelude.{cond, ◌≡◌, List, [], ◌++◌, map, ℕ, ◌-◌, ◌<◌, leb, length, get_or, take}
+-- What becomes of a record where keys are removed and unlocked: it stays, is freed, its count at byte 2 or 3 becomes 0, or it is marked
+-- stale. The order is that of the paper's `effect`.
+use Rattle.std.specs.Prelude.{cond, eqb, ◌≡◌, List, [], ◌++◌, map, ℕ, ◌-◌, ◌<◌, leb, length, get_or, replicate, take}
 use Rattle.paper.specs.Limits.{most_records}
-use Rattle.paper.specs.Bytes.{byte, zeros_of}
 use Rattle.paper.specs.Form.{Rec, ◌or◌, test}
 use Rattle.paper.specs.Closing.{Keys, goes, key_unlocked, puk_unlocked, pending_on}
+use Rattle.effect_plan.specs.declared.Fate.{Fate}
+use Rattle.effect_plan.specs.declared.Fate.TheVariants.{Stays, Freed, KeyCleared, PukCleared, MadeStale, Shut, NewPin, NewPinCleared}
 
-abbrev pub STAYS : ℕ
-STAYS = 0
-
-abbrev pub FREED : ℕ
-FREED = 1
-
-abbrev pub KEY_CLEARED : ℕ
-KEY_CLEARED = 2
-
-abbrev pub PUK_CLEARED : ℕ
-PUK_CLEARED = 3
-
-abbrev pub MADE_STALE : ℕ
-MADE_STALE = 4
-
-unfoldable pub fate : Keys → Keys → List Rec → Rec → ℕ
+unfoldable pub fate : Keys → Keys → List Rec → Rec → Fate
 fate d u rs r =
-    cond (test (goes d rs r)) FREED
-    (cond (test (key_unlocked u r)) KEY_CLEARED
-    (cond (test (puk_unlocked u rs r)) PUK_CLEARED
-    (cond (test (pending_on d r or pending_on u r)) MADE_STALE STAYS)))
+    cond (test (goes d rs r)) Freed
+    (cond (test (key_unlocked u r)) KeyCleared
+    (cond (test (puk_unlocked u rs r)) PukCleared
+    (cond (test (pending_on d r or pending_on u r)) MadeStale Stays)))
 
--- A plan has each record's number at its place.
-pub record Plan (f : Rec → ℕ) (rs : List Rec) (p : List ℕ) : Type 0 where
-  pub at : (i : ℕ) → i < length rs → byte i p ≡ f (get_or rs i [])
+-- The number of a fate, and the fate that a number stands for.
+abbrev pub number_of : Fate → ℕ
+number_of Stays = 0
+number_of Freed = 1
+number_of KeyCleared = 2
+number_of PukCleared = 3
+number_of MadeStale = 4
+number_of Shut = 5
+number_of NewPin = 6
+number_of NewPinCleared = 7
 
--- It has room for 256 records: those of a longer store all stay. Behind the last record it has zeros, so that the records determine it.
-unfoldable pub plan_of : (Rec → ℕ) → List Rec → List ℕ
-plan_of f rs = take most_records (map f rs) ++ zeros_of (most_records - length rs)
+abbrev pub fate_of : ℕ → Fate
+fate_of n =
+    cond (eqb n 1) Freed
+    (cond (eqb n 2) KeyCleared
+    (cond (eqb n 3) PukCleared
+    (cond (eqb n 4) MadeStale
+    (cond (eqb n 5) Shut
+    (cond (eqb n 6) NewPin
+    (cond (eqb n 7) NewPinCleared Stays))))))
 
-unfoldable pub fitting : List Rec → (Rec → ℕ) → Rec → ℕ
-fitting rs f r = cond (leb (length rs) most_records) (f r) STAYS
+-- What a plan says of the record at a place; past the plan's end it stays.
+unfoldable pub planned : ℕ → List Fate → Fate
+planned i p = get_or p i Stays
+
+-- A plan has each record's fate at its place.
+pub record Plan (f : Rec → Fate) (rs : List Rec) (p : List Fate) : Type 0 where
+  pub at : (i : ℕ) → i < length rs → planned i p ≡ f (get_or rs i [])
+
+-- It has room for 256 records: those of a longer store all stay. Behind the last record all stay too, so that the records determine it.
+unfoldable pub plan_of : (Rec → Fate) → List Rec → List Fate
+plan_of f rs = take most_records (map f rs) ++ replicate (most_records - length rs) Stays
+
+unfoldable pub fitting : List Rec → (Rec → Fate) → Rec → Fate
+fitting rs f r = cond (leb (length rs) most_records) (f r) Stays

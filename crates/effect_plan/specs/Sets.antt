@@ -5,6 +5,7 @@ use Rattle.paper.specs.Form.{Rec, Form, ◌equals◌, no, ◌and◌, ◌or◌, s
 use Rattle.paper.specs.Records.{kind, SESSION, POLICY, KEY, own, session, parent, operation}
 use Rattle.paper.specs.Closing.{Keys as Set, no_keys, one, held, holds, is_pending, key_goes, policy_goes, puk_goes, session_goes, key_unlocked, pending_on}
 use Rattle.effect_plan.specs.Fate.{fate, plan_of}
+use Rattle.effect_plan.specs.declared.Fate.{Fate}
 use Rattle.effect_plan.specs.declared.Keys.{Keys}
 use Rattle.effect_plan.specs.declared.Keys.TheVariants.{Nobody, One, Two, Three, Held}
 use Rattle.effect_plan.specs.declared.Homes.{Homes}
@@ -97,7 +98,7 @@ module _ (d : Set) (rs : List Rec) where
   abbrev pub parent_goes : Rec → Form
   parent_goes r = policy_goes d rs r or puk_goes d rs r or session_goes d rs r
 
--- What is said of whatever set has these marks and these homes: a test, the homes themselves, a number by two sets, and a plan.
+-- What is said of whatever set has these marks and these homes: a test, the homes themselves, a fate by two sets, and a plan.
 abbrev pub Told : List Rec → List ℕ → Bool → (Set → Form) → Type 0
 Told rs m b φ = (d : Set) → Marked d rs m → b ≡ test (φ d)
 
@@ -107,8 +108,8 @@ ToldAt rs m hs b φ = (d : Set) → Marked d rs m → AtHome d rs (homes_of hs) 
 abbrev pub AllHome : List Rec → List ℕ → Homes → Type 0
 AllHome rs m hs = (d : Set) → Marked d rs m → AtHome d rs (homes_of hs)
 
-abbrev pub Settled : List Rec → List ℕ → List ℕ → Homes → Homes → ℕ → (Set → Set → ℕ) → Type 0
-Settled rs md mu hd hu n f = (d u : Set) → Marked d rs md → Marked u rs mu → AtHome d rs (homes_of hd) → AtHome u rs (homes_of hu) → n ≡ f d u
+abbrev pub Settled : List Rec → List ℕ → List ℕ → Homes → Homes → Fate → (Set → Set → Fate) → Type 0
+Settled rs md mu hd hu t f = (d u : Set) → Marked d rs md → Marked u rs mu → AtHome d rs (homes_of hd) → AtHome u rs (homes_of hu) → t ≡ f d u
 
-abbrev pub Decided : List Rec → List ℕ → List ℕ → List ℕ → Type 0
+abbrev pub Decided : List Rec → List ℕ → List ℕ → List Fate → Type 0
 Decided rs md mu p = (d u : Set) → Marked d rs md → Marked u rs mu → p ≡ plan_of (fate d u rs) rs

@@ -1,48 +1,33 @@
 -- Laws of the comparison: `same` is equality, both ways, and gathered differences are 0 just where no byte differs.
-use mathlib.Core.Bool.{Bool, true, false, ◌&&◌}
-use mathlib.Core.Path.{◌≡◌, refl, sym, ap, ap₂, ◌∙◌}
-use mathlib.Core.List.{List, [], ◌∷◌, ◌++◌}
-use Prim.Native.Nat.{ℕ, ◌+◌, ◌<◌}
-use native.Mathlib.Numerals.{add-one}
+use mathlib.Core.Bool.{Bool, true}
+use mathlib.Core.Path.{◌≡◌, refl, ap, ap₂, ◌∙◌}
+use mathlib.Core.List.{List, [], ◌∷◌}
+use Prim.Native.Nat.{ℕ}
 use native.Mathlib.Omega.{arith}
-use borrow.Author.Tests.{eqb-true, eq-eqb}
+use borrow.Author.Rules.{rules}
 use lib.Bits.{bit_or, bit_xor, or_add_and, xor_add_and, and_le_l, and_le_r, xor_self}
-use lib.Dec.{eqb}
-use lib.ListN.{length, get_or, take}
-use lib.Seq.{take-suc, take-take, get_or-take}
+use lib.ListN.{length}
+use Rattle.std.specs.Bool.{Decides}
+use Rattle.std.specs.List.{fold, zip}
+use Rattle.std.proofs.lemmas.Bool.Decides.{same_from_decides}
+use Rattle.std.proofs.lemmas.Slice.Eq.{compares_Decides}
 use Rattle.hmac.specs.Same.{same}
 
-both : (p q : Bool) → p && q ≡ true → (p ≡ true) × (q ≡ true)
-both true q e = (refl, e)
-both false q e = (e, cc)
+same-decides : (a b : List ℕ) → Decides (same a b) (a ≡ b)
+unfolding same
+same-decides a b = compares_Decides same (search rules) a b
 
 -- what tests as the same is equal
 pub same_eq : (a b : List ℕ) → same a b ≡ true → a ≡ b
-unfolding same
-same_eq [] [] e = refl
-same_eq [] (y ∷ ys) e = cc
-same_eq (x ∷ xs) [] e = cc
-same_eq (x ∷ xs) (y ∷ ys) e =
-    let z = both (eqb x y) (same xs ys) e in
-    ap₂ (λ (v : ℕ) (l : List ℕ). v ∷ l) (eqb-true x y z.0) (same_eq xs ys z.1)
-
-same_refl : (a : List ℕ) → same a a ≡ true
-unfolding same
-same_refl [] = refl
-same_refl (x ∷ xs) = rw (eq-eqb x x refl) (same_refl xs)
+same_eq a b e = (same-decides a b).0 e
 
 -- what is equal tests as the same
 pub eq_same : (a b : List ℕ) → a ≡ b → same a b ≡ true
-eq_same a b e = rw e (same_refl b)
-
-agree : (p q : Bool) → (p ≡ true → q ≡ true) → (q ≡ true → p ≡ true) → p ≡ q
-agree true q f g = sym (f refl)
-agree false true f g = g refl
-agree false false f g = refl
+eq_same a b e = (same-decides a b).1 e
 
 -- so a test that is true just of equal lists is `same`
 pub test-same : (a b : List ℕ) (t : Bool) → (t ≡ true → a ≡ b) → (a ≡ b → t ≡ true) → t ≡ same a b
-test-same a b t f g = agree t (same a b) (λ e. eq_same a b (f e)) (λ e. g (same_eq a b e))
+test-same a b t f g = same_from_decides {P = a ≡ b} t (same a b) (f, g) (same-decides a b)
 
 or_zero : (x y : ℕ) → bit_or x y ≡ 0 → (x ≡ 0) × (y ≡ 0)
 or_zero x y e = omega (arith, or_add_and x y, and_le_l x y, and_le_r x y)
@@ -50,17 +35,20 @@ or_zero x y e = omega (arith, or_add_and x y, and_le_l x y, and_le_r x y)
 xor_zero : (x y : ℕ) → bit_xor x y ≡ 0 → x ≡ y
 xor_zero x y e = omega (arith, xor_add_and x y, and_le_l x y, and_le_r x y)
 
--- one byte more is compared
-module _ (a b : List ℕ) (i differ : ℕ) (ha : i < length a) (hb : i < length b) where
-  pub none_more : (differ ≡ 0 → take i a ≡ take i b) → bit_or differ (bit_xor (get_or a i 0) (get_or b i 0)) ≡ 0 → take (i + 1) a ≡ take (i + 1) b
-  none_more f e =
-      let z : (differ ≡ 0) × (bit_xor (get_or a i 0) (get_or b i 0) ≡ 0) = or_zero differ (bit_xor (get_or a i 0) (get_or b i 0)) e in
-      let x : get_or a i 0 ≡ get_or b i 0 = xor_zero (get_or a i 0) (get_or b i 0) z.1 in
-      let t : take i a ≡ take i b = f z.0 in
-      rw (add-one, take-suc a i 0 ha, take-suc b i 0 hb) (ap₂ (λ (l : List ℕ) (v : ℕ). l ++ (v ∷ [])) t x)
+-- what a byte of each adds to the differences gathered
+abbrev pub differing : ℕ → ℕ × ℕ → ℕ
+differing d p = bit_or d (bit_xor p.0 p.1)
 
-  pub same_more : (take i a ≡ take i b → differ ≡ 0) → take (i + 1) a ≡ take (i + 1) b → bit_or differ (bit_xor (get_or a i 0) (get_or b i 0)) ≡ 0
-  same_more f e =
-      let t : take i a ≡ take i b = sym (take-take i (i + 1) a (omega arith)) ∙ ap (take i) e ∙ take-take i (i + 1) b (omega arith) in
-      let x : get_or a i 0 ≡ get_or b i 0 = sym (get_or-take (i + 1) a i 0 (omega arith)) ∙ ap (λ (l : List ℕ). get_or l i 0) e ∙ get_or-take (i + 1) b i 0 (omega arith) in
-      rw (f t, x, xor_self)
+pub none_differ : (a b : List ℕ) (d : ℕ) → length a ≡ length b → fold differing d (zip a b) ≡ 0 → (d ≡ 0) × (a ≡ b)
+none_differ [] [] d l e = (e, refl)
+none_differ [] (y ∷ ys) d l e = absurd (omega arith)
+none_differ (x ∷ xs) [] d l e = absurd (omega arith)
+none_differ (x ∷ xs) (y ∷ ys) d l e =
+    let n : length xs ≡ length ys = omega arith in
+    let r : (bit_or d (bit_xor x y) ≡ 0) × (xs ≡ ys) = none_differ xs ys (bit_or d (bit_xor x y)) n e in
+    let z : (d ≡ 0) × (bit_xor x y ≡ 0) = or_zero d (bit_xor x y) r.0 in
+    (z.0, ap₂ (λ (v : ℕ) (l : List ℕ). v ∷ l) (xor_zero x y z.1) r.1)
+
+pub same_differ : (a : List ℕ) → fold differing 0 (zip a a) ≡ 0
+same_differ [] = refl
+same_differ (x ∷ xs) = let z : bit_or 0 (bit_xor x x) ≡ 0 = rw xor_self in ap (λ (d : ℕ). fold differing d (zip xs xs)) z ∙ same_differ xs

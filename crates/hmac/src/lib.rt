@@ -10,7 +10,8 @@ ghost use Rattle.hmac.specs.Same.{same};
 
 use sha256::{State, Words};
 
-// A MAC under way, 136 bytes: the hash that has taken the inner key block, and the hash value of the outer.
+// A MAC under way, 136 bytes: the hash that has taken the inner key block, and the hash value of the outer. Its key and its text are no
+// ghost fields, as one of a plain struct is a fact and no data; so each promise speaks of all of which the MAC is `Keyed`.
 #[derive(Clone, Copy)]
 pub struct Mac {
     inner: State,
@@ -23,11 +24,7 @@ fn fill(s: &[u8]) -> [u8; 64]
     ensures { result ≡ filled s.now }
 {
     let mut b = [0u8; 64];
-    let mut i: usize = 0;
-    while i < s.len() {
-        b[i] = s[i];
-        i += 1;
-    }
+    b[..s.len()].copy_from_slice(s);
     b
 }
 
@@ -42,16 +39,13 @@ fn key_block(key: &[u8]) -> [u8; 64]
 }
 
 // Each byte of b XORed with p.
-fn xor_all(b: [u8; 64], p: u8) -> [u8; 64]
+fn xor_all(mut b: [u8; 64], p: u8) -> [u8; 64]
     ensures { result ≡ xored p b }
 {
-    let mut r = b;
-    let mut i: usize = 0;
-    while i < 64 {
-        r[i] = b[i] ^ p;
-        i += 1;
+    for x in &mut b {
+        *x ^= p;
     }
-    r
+    b
 }
 
 // A MAC under this key, with no bytes taken yet.
@@ -63,10 +57,7 @@ pub fn start(key: &[u8]) -> Mac
     let o = xor_all(b, 0x5c);
     let inner = sha256::update(sha256::start(), &i);
     let outer = sha256::value(sha256::update(sha256::start(), &o));
-    Mac {
-        inner: inner,
-        outer: outer,
-    }
+    Mac { inner, outer }
 }
 
 // The bytes of d are taken, after those taken before.
@@ -75,10 +66,7 @@ pub fn update(s: Mac, d: &[u8]) -> Mac
 {
     let outer = s.outer;
     let inner = sha256::update(s.inner, d);
-    Mac {
-        inner: inner,
-        outer: outer,
-    }
+    Mac { inner, outer }
 }
 
 // The MAC of the bytes taken.
@@ -104,10 +92,8 @@ pub fn is_same(a: &[u8], b: &[u8]) -> bool
         return false;
     }
     let mut differ: u8 = 0;
-    let mut i: usize = 0;
-    while i < a.len() {
-        differ = differ | (a[i] ^ b[i]);
-        i += 1;
+    for (x, y) in a.iter().zip(b) {
+        differ |= x ^ y;
     }
     differ == 0
 }

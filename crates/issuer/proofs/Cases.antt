@@ -4,6 +4,7 @@ use mathlib.Core.Bool.{Bool, false}
 use mathlib.Core.List.{List}
 use Prim.Native.Nat.{ℕ, ◌+◌, ◌≤◌, ◌<◌}
 use native.Mathlib.Omega.{arith}
+use mathlib.Core.Logic.{inl, inr}
 use lib.ListN.{length, length-append}
 use borrow.Author.Tests.{le-leb, lt-leb}
 use Rattle.paper.specs.Form.{Form, test, Fact}
@@ -11,7 +12,7 @@ use Rattle.paper.specs.Mac.{mac_under}
 use Rattle.paper.specs.Issuing.{Issuer, issued, CloseOrder, close_call, PukOrder, puk_call, PolicyOrder, policy_call, KeyOrder, key_call, PathOrder, path_call, PostOrder, post_call}
 use Rattle.paper.proofs.Forms.{both}
 use Rattle.laws.proofs.CallStrings.{length-mac}
-use Rattle.issuer.specs.Told.{told, Says, Wrote}
+use Rattle.issuer.specs.Told.{told, LongAs, Says, Wrote}
 
 -- a test that gives the right answer says what holds
 pub says : {r : Bool} {φ : Form} → r ≡ test φ → Says r φ
@@ -36,6 +37,15 @@ module _ (ordered : Form) (call out : List ℕ) where
     written {k} l s w =
         let e : k ≡ n = omega (arith, w.place) in
         rw ((both ordered).1 f, size, le-leb n 16384 l, le-leb n (length out) s) (λ j. told 0 (e j) (w.bytes j))
+
+-- a length that was told, where it is past the longest call, and where it is not
+pub longer : {n size : ℕ} → LongAs n size → 16384 < n → 16384 < size
+longer (inl e) l = omega (arith, e, l)
+longer (inr both) l = both.1
+
+pub exact : {n size : ℕ} → LongAs n size → n ≤ 16384 → n ≡ size
+exact (inl e) l = e
+exact (inr both) l = omega (arith, both.0, l)
 
 -- ---- how long a call is: head, fields and MAC
 

@@ -1,12 +1,12 @@
 -- Pieces written one behind the other are their join, written at once.
-use mathlib.Core.Path.{◌≡◌, ap, ◌∙◌}
-use mathlib.Core.List.{List, [], ◌∷◌, ◌++◌, append_assoc, append-nil}
+use mathlib.Core.Path.{◌≡◌, ap}
+use mathlib.Core.List.{List, [], ◌∷◌, ◌++◌, append_assoc}
 use Prim.Native.Nat.{ℕ, suc, ◌+◌, ◌-◌, ◌≤◌}
 use native.Mathlib.Nat.{add-zero}
 use native.Mathlib.Omega.{arith}
 use borrow.Rule.Slice.PartMut.{put_mid}
-use lib.ListN.{length, take, set, length-append}
-use lib.Seq.{sets-eq, drop-drop, take-length}
+use lib.ListN.{length, set, length-append}
+use lib.Seq.{sets-eq, drop-drop}
 use Rattle.paper.specs.Bytes.{over}
 use Rattle.issuer.specs.Told.{Wrote}
 

@@ -1,15 +1,18 @@
 // The issuer's half: the calls of methods 3, 8, 9, 10, 12, 50 and 51 written from an order, and the two attestations checked;
-// `issuer_c` exports them for C. Each builder tests the range of its order, then the room in the buffer; then it makes the
-// MAC from the order's own slices and writes the call. No order is asked to be in range, and none reaches outside what is lent.
+// `issuer_c` exports them for C. Each builder puts its parameters into an order, and `build` does the rest: it tests the range, then
+// the room in the buffer; then the order makes the MAC from its own slices and writes the call. No order is asked to be in range, and
+// none reaches outside what is lent.
 
 #![tactic(auto)]
 
 ghost use Rattle.std.specs.Prelude.{◌≡◌, List, [], ◌∷◌, ◌++◌, ℕ, ◌+◌, ◌≤◌, length};
 ghost use Rattle.paper.specs.Bytes.{enc2, enc4, string};
-ghost use Rattle.paper.specs.Form.{test, ◌equals◌, ◌=<◌, ◌and◌};
-ghost use Rattle.paper.specs.Issuing.{has_length, is_id, close_ordered, close_call, puk_ordered, puk_call, policy_ordered, policy_call, key_ordered, key_call, pin_ordered, path_ordered, certificates_ordered, path_call, post_ordered, post_call, key_attests, close_attests};
-ghost use Rattle.issuer.specs.Told.{told, Says, Wrote, issuer_of, close_of, puk_of, policy_of, key_of, path_of, post_of, close_issued, puk_issued, policy_issued, key_issued, path_issued, post_issued};
+ghost use Rattle.paper.specs.Form.{Form, Fact, test, ◌equals◌, ◌=<◌, ◌and◌};
+ghost use Rattle.paper.specs.Issuing.{issued, has_length, is_id, close_ordered, close_call, puk_ordered, puk_call, policy_ordered, policy_rule_bytes, policy_call, key_ordered, key_flag_bytes, key_call, pin_ordered, path_ordered, certificates_ordered, path_call, post_ordered, post_call, key_attests, close_attests};
+ghost use Rattle.paper.specs.Issuing as issuing;
+ghost use Rattle.issuer.specs.Told.{told, LongAs, Says, Wrote, issuer_held, close_held, puk_held, policy_held, key_held, path_held, post_held, issuer_of, close_of, puk_of, policy_of, key_of, path_of, post_of, close_issued, puk_issued, policy_issued, key_issued, path_issued, post_issued};
 
+use call_mac::MacKey;
 use paper::{
     BEHIND_SUBJECT, CERTIFICATES, DELETES, DONE, HANDLE_BYTES, ID_BYTES, ISSUER_PIN, LAST_COUNT,
     LONGEST_AUTHORIZATION, LONGEST_CALL, LONGEST_ENCRYPTED, LONGEST_NAME, LONGEST_NONCE,
@@ -34,7 +37,7 @@ const KEY_FIXED: usize = 62;
 fn is_ready(key: &[u8], counter: u16, uses: u8) -> bool
     ensures { result ≡ test (length key.now equals 32 and counter + uses =< 65535) }
 {
-    (key.len() == SESSION_KEY_BYTES) & ((counter as usize) + (uses as usize) <= LAST_COUNT)
+    (key.len() == SESSION_KEY_BYTES) & (usize::from(counter) + usize::from(uses) <= LAST_COUNT)
 }
 
 fn has_length(v: &[u8], lo: usize, hi: usize) -> bool
@@ -46,91 +49,7 @@ fn has_length(v: &[u8], lo: usize, hi: usize) -> bool
 fn is_id(v: &[u8]) -> bool
     ensures { result ≡ test (is_id v.now) }
 {
-    has_length(v, 1, ID_BYTES as usize) & all_within(v, 0x21, 0x7E)
-}
-
-// ---- what is asked of an order
-
-fn is_close(key: &[u8], counter: u16, client: &[u8], nonce: &[u8]) -> bool
-    ensures { Says result (close_ordered (issuer_of 0 key.now counter) (close_of client.now nonce.now)) }
-{
-    is_ready(key, counter, 2) & (is_id(client) & has_length(nonce, 1, LONGEST_NONCE))
-}
-
-fn is_puk(key: &[u8], counter: u16, id: &[u8], encrypted: &[u8]) -> bool
-    ensures { Says result (puk_ordered (issuer_of 0 key.now counter) (puk_of id.now encrypted.now 0 0)) }
-{
-    is_ready(key, counter, 1) & (is_id(id) & has_length(encrypted, 1, LONGEST_ENCRYPTED))
-}
-
-fn is_policy(
-    key: &[u8],
-    counter: u16,
-    id: &[u8],
-    puk: u32,
-    puk_id: &[u8],
-    defined: u8,
-    modifiable: u8,
-) -> bool
-    ensures { Says result (policy_ordered (issuer_of 0 key.now counter) (policy_of id.now puk puk_id.now defined modifiable 0 0 0 0 0 0 0)) }
-{
-    let flags = (defined <= 1) & (modifiable <= 1);
-    let names = is_id(id) & (((puk == 0) | is_id(puk_id)) & flags);
-    is_ready(key, counter, 1) & names
-}
-
-// No PIN without a policy, and with one the user's or the issuer's.
-fn is_pin(policy: u32, policy_id: &[u8], kind: u8) -> bool
-    ensures { result ≡ test (pin_ordered (key_of [] [] [] policy policy_id.now kind [] 0 0 0 0 0 [] [] [] 0)) }
-{
-    let none = (policy == 0) & (kind == NO_PIN);
-    let one = (policy != 0) & (((kind == USER_PIN) | (kind == ISSUER_PIN)) & is_id(policy_id));
-    none | one
-}
-
-fn is_key(
-    key: &[u8],
-    counter: u16,
-    id: &[u8],
-    seed: &[u8],
-    policy: u32,
-    policy_id: &[u8],
-    kind: u8,
-    pin: &[u8],
-    caching: u8,
-    friendly: &[u8],
-    parameters: &[u8],
-) -> bool
-    ensures { Says result (key_ordered (issuer_of 0 key.now counter) (key_of id.now [] seed.now policy policy_id.now kind pin.now caching 0 0 0 0 friendly.now [] parameters.now 0)) }
-{
-    let names = has_length(friendly, 0, LONGEST_NAME)
-        & has_length(parameters, 0, LONGEST_PARAMETERS);
-    let pins = has_length(pin, 0, LONGEST_PIN_VALUE) & ((caching <= 1) & names);
-    let rest = has_length(seed, 0, LONGEST_SEED) & (is_pin(policy, policy_id, kind) & pins);
-    is_ready(key, counter, 2) & (is_id(id) & rest)
-}
-
-// Certificates as they stand in a call: n strings, none of them empty, and nothing behind them.
-fn are_certificates(n: u8, v: &[u8]) -> bool
-    ensures { result ≡ test (certificates_ordered (path_of 0 [] [] n v.now)) }
-{
-    let end = call_fields::behind_strings(v, 0, n);
-    (1 <= n) & (call_form::are_filled(v, 0, n) & (end == v.len()))
-}
-
-fn is_path(key: &[u8], counter: u16, id: &[u8], public: &[u8], n: u8, certificates: &[u8]) -> bool
-    ensures { Says result (path_ordered (issuer_of 0 key.now counter) (path_of 0 id.now public.now n certificates.now)) }
-{
-    let public_fits = has_length(public, 1, PUBLIC_KEY_BYTES as usize);
-    let rest = is_id(id) & (public_fits & are_certificates(n, certificates));
-    is_ready(key, counter, 1) & rest
-}
-
-fn is_post(key: &[u8], counter: u16, method: u8, authorization: &[u8]) -> bool
-    ensures { Says result (post_ordered (issuer_of 0 key.now counter) (post_of method 0 authorization.now)) }
-{
-    let known = (method == DELETES) | (method == UNLOCKS);
-    is_ready(key, counter, 1) & (known & has_length(authorization, 1, LONGEST_AUTHORIZATION))
+    has_length(v, 1, usize::from(ID_BYTES)) & all_within(v, 0x21, 0x7E)
 }
 
 // ---- pieces written one after another: each tells the place behind it
@@ -147,21 +66,14 @@ fn put_two(out: &mut [u8], k: usize, n: usize) -> usize
     requires { k + 2 ≤ length out.old }
     ensures { Wrote (enc2 n) k result out.old out.new }
 {
-    let b = [(n / 256 % 256) as u8, (n % 256) as u8];
-    put(out, k, &b)
+    put(out, k, &((n % 65536) as u16).to_be_bytes())
 }
 
 fn put_four(out: &mut [u8], k: usize, n: u32) -> usize
     requires { k + 4 ≤ length out.old }
     ensures { Wrote (enc4 n) k result out.old out.new }
 {
-    let b = [
-        (n / 256 / 256 / 256 % 256) as u8,
-        (n / 256 / 256 % 256) as u8,
-        (n / 256 % 256) as u8,
-        (n % 256) as u8,
-    ];
-    put(out, k, &b)
+    put(out, k, &n.to_be_bytes())
 }
 
 fn put_string(out: &mut [u8], k: usize, v: &[u8]) -> usize
@@ -191,24 +103,97 @@ fn key_of(key: &[u8]) -> [u8; 32]
     r
 }
 
+// ---- an order, and how it is built, whatever its method
+
+// What an issuer knows of its session: its handle, its SessionKey, and the MAC counter before the call.
+#[derive(Clone, Copy)]
+struct Issuer<'a> {
+    session: u32,
+    key: &'a [u8],
+    counter: u16,
+}
+
+// What an issuer orders: the fields of one method's call, and what the store would find behind its handles.
+trait Order {
+    // The paper's range of such an order, and the call that it means.
+    ghost ordered: { issuing.Issuer → Self → Form };
+
+    ghost call: { issuing.Issuer → Self → List ℕ };
+
+    // How long that call is, whoever the issuer.
+    ghost size: { Self → ℕ };
+
+    fn is_in_range(&self, issuer: &Issuer<'_>) -> bool
+        ensures { Says result (ordered (issuer_held issuer.now) self.now) };
+
+    // How long its call is. An order in range is asked for, so that the lengths add up.
+    fn length(&self) -> usize
+        requires { (i : issuing.Issuer) × Fact (ordered i self.now) }
+        ensures told { LongAs result (size self.now) }
+        ensures meant { (i : issuing.Issuer) → length (call i self.now) ≡ size self.now };
+
+    // Its call, written into the front of a buffer; the place behind it is told.
+    fn write(&self, issuer: &Issuer<'_>, out: &mut [u8]) -> usize
+        requires { (length issuer.now.key.now ≡ 32) × (size self.now ≤ length out.old) }
+        ensures { Wrote (call (issuer_held issuer.now) self.now) 0 result out.old out.new };
+
+    // Every range asks for a SessionKey of 32 bytes.
+    ghost keyed: { (i : issuing.Issuer) (o : Self) → Fact (ordered i o) → length i.key ≡ 32 };
+}
+
+// The range is asked first, then the longest call, then the room in the buffer.
+fn build<O: Order>(order: &O, issuer: &Issuer<'_>, out: &mut [u8], written: &mut usize) -> u8
+    ensures { told result written.new out.new ≡ issued (O.ordered (issuer_held issuer.now) order.now) (O.call (issuer_held issuer.now) order.now) out.old }
+{
+    *written = 0;
+    if !order.is_in_range(issuer) {
+        return NO_FORM;
+    }
+    let n = order.length();
+    if LONGEST_CALL < n {
+        return NO_FORM;
+    }
+    if out.len() < n {
+        return SHORT_REPLY;
+    }
+    *written = order.write(issuer, out);
+    DONE
+}
+
 // ---- 3 closeProvisioningSession
 
-fn write_close(
-    session: u32,
-    key: &[u8],
-    counter: u16,
-    client: &[u8],
-    nonce: &[u8],
-    out: &mut [u8],
-) -> usize
-    requires { (length key.now ≡ 32) × (39 + length nonce.now ≤ length out.old) }
-    ensures { Wrote (close_call (issuer_of session key.now counter) (close_of client.now nonce.now)) 0 result out.old out.new }
-{
-    let k = key_of(key);
-    let m = call_mac::close_under(&k, counter, client, nonce);
-    let mut at = put_head(out, 3, session);
-    at = put_string(out, at, nonce);
-    put(out, at, &m)
+// The session's ClientSessionID stands in the MAC's data, and not in the call.
+#[derive(Clone, Copy)]
+struct CloseOrder<'a> {
+    client: &'a [u8],
+    nonce: &'a [u8],
+}
+
+impl Order for CloseOrder<'_> {
+    ghost ordered = { λ i o. close_ordered i (close_held o) };
+
+    ghost call = { λ i o. close_call i (close_held o) };
+
+    ghost size = { λ o. 39 + length o.nonce.now };
+
+    fn is_in_range(&self, issuer: &Issuer<'_>) -> bool {
+        let strings = is_id(self.client) & has_length(self.nonce, 1, LONGEST_NONCE);
+        is_ready(issuer.key, issuer.counter, 2) & strings
+    }
+
+    fn length(&self) -> usize {
+        BEHIND_SUBJECT + LENGTH_BYTES + self.nonce.len() + MAC_BYTES
+    }
+
+    fn write(&self, issuer: &Issuer<'_>, out: &mut [u8]) -> usize {
+        let k = key_of(issuer.key);
+        let m = MacKey::new(&k, issuer.counter).close_under(self.client, self.nonce);
+        let mut at = put_head(out, 3, issuer.session);
+        at = put_string(out, at, self.nonce);
+        put(out, at, &m)
+    }
+
+    ghost keyed = { λ i o f. f.0.0 };
 }
 
 pub fn sks_build_close<'a>(
@@ -222,48 +207,53 @@ pub fn sks_build_close<'a>(
 ) -> u8
     ensures { told result written.new out.new ≡ close_issued (issuer_of session key.now counter) (close_of client.now nonce.now) out.old }
 {
-    *written = 0;
-    if !is_close(key, counter, client, nonce) {
-        return NO_FORM;
-    }
-    if out.len() < BEHIND_SUBJECT + LENGTH_BYTES + nonce.len() + MAC_BYTES {
-        return SHORT_REPLY;
-    }
-    *written = write_close(session, key, counter, client, nonce, out);
-    DONE
+    let issuer = Issuer {
+        session,
+        key,
+        counter,
+    };
+    let order = CloseOrder { client, nonce };
+    build(&order, &issuer, out, written)
 }
 
 // ---- 8 createPUKPolicy
 
-// How long its call is. The lengths of two slices of any size might not add up in 64 bits.
-fn puk_length(id: &[u8], encrypted: &[u8]) -> usize
-    requires { length id.now ≤ 32 }
-    ensures { result ≡ 43 + length id.now + length encrypted.now }
-{
-    PUK_FIXED + id.len() + encrypted.len()
-}
-
-fn write_puk(
-    session: u32,
-    key: &[u8],
-    counter: u16,
-    id: &[u8],
-    encrypted: &[u8],
+#[derive(Clone, Copy)]
+struct PukOrder<'a> {
+    id: &'a [u8],
+    encrypted: &'a [u8],
     format: u8,
     retry: u8,
-    out: &mut [u8],
-) -> usize
-    requires { (length key.now ≡ 32) × (43 + length id.now + length encrypted.now ≤ length out.old) }
-    ensures { Wrote (puk_call (issuer_of session key.now counter) (puk_of id.now encrypted.now format retry)) 0 result out.old out.new }
-{
-    let k = key_of(key);
-    let rules = [format, retry];
-    let m = call_mac::puk_under(&k, counter, id, encrypted, &rules);
-    let mut at = put_head(out, 8, session);
-    at = put_string(out, at, id);
-    at = put_string(out, at, encrypted);
-    at = put(out, at, &rules);
-    put(out, at, &m)
+}
+
+impl Order for PukOrder<'_> {
+    ghost ordered = { λ i o. puk_ordered i (puk_held o) };
+
+    ghost call = { λ i o. puk_call i (puk_held o) };
+
+    ghost size = { λ o. 43 + length o.id.now + length o.encrypted.now };
+
+    fn is_in_range(&self, issuer: &Issuer<'_>) -> bool {
+        let strings = is_id(self.id) & has_length(self.encrypted, 1, LONGEST_ENCRYPTED);
+        is_ready(issuer.key, issuer.counter, 1) & strings
+    }
+
+    fn length(&self) -> usize {
+        PUK_FIXED + self.id.len() + self.encrypted.len()
+    }
+
+    fn write(&self, issuer: &Issuer<'_>, out: &mut [u8]) -> usize {
+        let k = key_of(issuer.key);
+        let rules = [self.format, self.retry];
+        let m = MacKey::new(&k, issuer.counter).puk_under(self.id, self.encrypted, &rules);
+        let mut at = put_head(out, 8, issuer.session);
+        at = put_string(out, at, self.id);
+        at = put_string(out, at, self.encrypted);
+        at = put(out, at, &rules);
+        put(out, at, &m)
+    }
+
+    ghost keyed = { λ i o f. f.0.0 };
 }
 
 pub fn sks_build_puk<'a>(
@@ -279,26 +269,28 @@ pub fn sks_build_puk<'a>(
 ) -> u8
     ensures { told result written.new out.new ≡ puk_issued (issuer_of session key.now counter) (puk_of id.now encrypted.now format retry) out.old }
 {
-    *written = 0;
-    if !is_puk(key, counter, id, encrypted) {
-        return NO_FORM;
-    }
-    if out.len() < puk_length(id, encrypted) {
-        return SHORT_REPLY;
-    }
-    *written = write_puk(session, key, counter, id, encrypted, format, retry, out);
-    DONE
+    let issuer = Issuer {
+        session,
+        key,
+        counter,
+    };
+    let order = PukOrder {
+        id,
+        encrypted,
+        format,
+        retry,
+    };
+    build(&order, &issuer, out, written)
 }
 
 // ---- 9 createPINPolicy
 
-fn write_policy(
-    session: u32,
-    key: &[u8],
-    counter: u16,
-    id: &[u8],
+// The PUK's ID stands in the MAC's data, and not in the call; so for the ID of a key's policy below.
+#[derive(Clone, Copy)]
+struct PolicyOrder<'a> {
+    id: &'a [u8],
     puk: u32,
-    puk_id: &[u8],
+    puk_id: &'a [u8],
     defined: u8,
     modifiable: u8,
     format: u8,
@@ -308,21 +300,60 @@ fn write_policy(
     min: u8,
     max: u8,
     input: u8,
-    out: &mut [u8],
-) -> usize
-    requires { (length key.now ≡ 32) × (52 + length id.now ≤ length out.old) }
-    ensures { Wrote (policy_call (issuer_of session key.now counter) (policy_of id.now puk puk_id.now defined modifiable format retry grouping patterns min max input)) 0 result out.old out.new }
-{
-    let k = key_of(key);
-    let rules = [
-        defined, modifiable, format, retry, grouping, patterns, min, max, input,
-    ];
-    let m = call_mac::policy_under(&k, counter, id, puk, puk_id, &rules);
-    let mut at = put_head(out, 9, session);
-    at = put_string(out, at, id);
-    at = put_four(out, at, puk);
-    at = put(out, at, &rules);
-    put(out, at, &m)
+}
+
+impl PolicyOrder<'_> {
+    fn rules(&self) -> [u8; 9]
+        ensures { result ≡ policy_rule_bytes (policy_held self.now) }
+    {
+        [
+            self.defined,
+            self.modifiable,
+            self.format,
+            self.retry,
+            self.grouping,
+            self.patterns,
+            self.min,
+            self.max,
+            self.input,
+        ]
+    }
+}
+
+impl Order for PolicyOrder<'_> {
+    ghost ordered = { λ i o. policy_ordered i (policy_held o) };
+
+    ghost call = { λ i o. policy_call i (policy_held o) };
+
+    ghost size = { λ o. 52 + length o.id.now };
+
+    fn is_in_range(&self, issuer: &Issuer<'_>) -> bool {
+        let flags = (self.defined <= 1) & (self.modifiable <= 1);
+        let names = is_id(self.id) & (((self.puk == 0) | is_id(self.puk_id)) & flags);
+        is_ready(issuer.key, issuer.counter, 1) & names
+    }
+
+    fn length(&self) -> usize {
+        BEHIND_SUBJECT + LENGTH_BYTES + self.id.len() + HANDLE_BYTES + RULES + MAC_BYTES
+    }
+
+    fn write(&self, issuer: &Issuer<'_>, out: &mut [u8]) -> usize {
+        let k = key_of(issuer.key);
+        let rules = self.rules();
+        let m = MacKey::new(&k, issuer.counter).policy_under(
+            self.id,
+            self.puk,
+            self.puk_id,
+            &rules,
+        );
+        let mut at = put_head(out, 9, issuer.session);
+        at = put_string(out, at, self.id);
+        at = put_four(out, at, self.puk);
+        at = put(out, at, &rules);
+        put(out, at, &m)
+    }
+
+    ghost keyed = { λ i o f. f.0.0 };
 }
 
 pub fn sks_build_policy<'a>(
@@ -346,117 +377,145 @@ pub fn sks_build_policy<'a>(
 ) -> u8
     ensures { told result written.new out.new ≡ policy_issued (issuer_of session key.now counter) (policy_of id.now puk puk_id.now defined modifiable format retry grouping patterns min max input) out.old }
 {
-    *written = 0;
-    if !is_policy(key, counter, id, puk, puk_id, defined, modifiable) {
-        return NO_FORM;
-    }
-    let fields = LENGTH_BYTES + id.len() + HANDLE_BYTES + RULES;
-    if out.len() < BEHIND_SUBJECT + fields + MAC_BYTES {
-        return SHORT_REPLY;
-    }
-    *written = write_policy(
-        session, key, counter, id, puk, puk_id, defined, modifiable, format, retry, grouping,
-        patterns, min, max, input, out,
-    );
-    DONE
+    let issuer = Issuer {
+        session,
+        key,
+        counter,
+    };
+    let order = PolicyOrder {
+        id,
+        puk,
+        puk_id,
+        defined,
+        modifiable,
+        format,
+        retry,
+        grouping,
+        patterns,
+        min,
+        max,
+        input,
+    };
+    build(&order, &issuer, out, written)
 }
 
 // ---- 10 createKeyEntry
 
-// How long its call is.
-fn key_length(
-    id: &[u8],
-    entry: &[u8],
-    seed: &[u8],
-    pin: &[u8],
-    friendly: &[u8],
-    algorithm: &[u8],
-    parameters: &[u8],
-) -> usize
-    requires { (length id.now ≤ 32) × (length entry.now ≤ 16384) × (length seed.now ≤ 64) × (length pin.now ≤ 64) × (length friendly.now ≤ 100) × (length parameters.now ≤ 8) }
-    ensures { result ≡ 62 + length id.now + length entry.now + length seed.now + length pin.now + length friendly.now + length algorithm.now + length parameters.now }
-{
-    let names = id.len() + entry.len() + seed.len() + pin.len();
-    let texts = friendly.len() + parameters.len() + algorithm.len();
-    KEY_FIXED + names + texts
-}
-
-// Its call up to PINValue.
-fn put_key_front(
-    out: &mut [u8],
-    session: u32,
-    id: &[u8],
-    entry: &[u8],
-    seed: &[u8],
+#[derive(Clone, Copy)]
+struct KeyOrder<'a> {
+    id: &'a [u8],
+    entry: &'a [u8],
+    seed: &'a [u8],
     policy: u32,
-    pin: &[u8],
-) -> usize
-    requires { 17 + length id.now + length entry.now + length seed.now + length pin.now ≤ length out.old }
-    ensures { Wrote ((10 ∷ enc4 session) ++ string id.now ++ string entry.now ++ string seed.now ++ enc4 policy ++ string pin.now) 0 result out.old out.new }
-{
-    let mut at = put_head(out, 10, session);
-    at = put_string(out, at, id);
-    at = put_string(out, at, entry);
-    at = put_string(out, at, seed);
-    at = put_four(out, at, policy);
-    put_string(out, at, pin)
-}
-
-// The fields from the flags up to the MAC, behind whatever stands in front of place k.
-fn put_key_back(
-    out: &mut [u8],
-    k: usize,
-    flags: &[u8],
-    friendly: &[u8],
-    algorithm: &[u8],
-    parameters: &[u8],
-    endorsed: u16,
-) -> usize
-    requires { k + 8 + length flags.now + length friendly.now + length algorithm.now + length parameters.now ≤ length out.old }
-    ensures { (front before : List ℕ) → Wrote front 0 k before out.old → Wrote (front ++ flags.now ++ string friendly.now ++ string algorithm.now ++ string parameters.now ++ enc2 endorsed) 0 result before out.new }
-{
-    let mut at = put(out, k, flags);
-    at = put_string(out, at, friendly);
-    at = put_string(out, at, algorithm);
-    at = put_string(out, at, parameters);
-    put_two(out, at, endorsed as usize)
-}
-
-fn write_key(
-    session: u32,
-    key: &[u8],
-    counter: u16,
-    id: &[u8],
-    entry: &[u8],
-    seed: &[u8],
-    policy: u32,
-    policy_id: &[u8],
-    kind: u8,
-    pin: &[u8],
+    policy_id: &'a [u8],
+    pin_kind: u8,
+    pin: &'a [u8],
     caching: u8,
     biometric: u8,
     export: u8,
     deletion: u8,
     usage: u8,
-    friendly: &[u8],
-    algorithm: &[u8],
-    parameters: &[u8],
+    friendly: &'a [u8],
+    algorithm: &'a [u8],
+    parameters: &'a [u8],
     endorsed: u16,
-    out: &mut [u8],
-) -> usize
-    requires { (length key.now ≡ 32) × (62 + length id.now + length entry.now + length seed.now + length pin.now + length friendly.now + length algorithm.now + length parameters.now ≤ length out.old) }
-    ensures { Wrote (key_call (issuer_of session key.now counter) (key_of id.now entry.now seed.now policy policy_id.now kind pin.now caching biometric export deletion usage friendly.now algorithm.now parameters.now endorsed)) 0 result out.old out.new }
-{
-    let k = key_of(key);
-    let flags = [caching, biometric, export, deletion, usage];
-    let sets = kind == ISSUER_PIN;
-    let m = call_mac::key_under(
-        &k, counter, id, entry, seed, policy, policy_id, sets, pin, &flags, friendly, algorithm,
-        parameters,
-    );
-    let mut at = put_key_front(out, session, id, entry, seed, policy, pin);
-    at = put_key_back(out, at, &flags, friendly, algorithm, parameters, endorsed);
-    put(out, at, &m)
+}
+
+impl KeyOrder<'_> {
+    // No PIN without a policy, and with one the user's or the issuer's.
+    fn is_pin(&self) -> bool
+        ensures { result ≡ test (pin_ordered (key_held self.now)) }
+    {
+        let known = (self.pin_kind == USER_PIN) | (self.pin_kind == ISSUER_PIN);
+        let none = (self.policy == 0) & (self.pin_kind == NO_PIN);
+        none | ((self.policy != 0) & (known & is_id(self.policy_id)))
+    }
+
+    fn flags(&self) -> [u8; 5]
+        ensures { result ≡ key_flag_bytes (key_held self.now) }
+    {
+        [
+            self.caching,
+            self.biometric,
+            self.export,
+            self.deletion,
+            self.usage,
+        ]
+    }
+
+    // Its call up to PINValue.
+    fn put_front(&self, session: u32, out: &mut [u8]) -> usize
+        requires { 17 + length self.now.id.now + length self.now.entry.now + length self.now.seed.now + length self.now.pin.now ≤ length out.old }
+        ensures { Wrote ((10 ∷ enc4 session) ++ string self.now.id.now ++ string self.now.entry.now ++ string self.now.seed.now ++ enc4 self.now.policy ++ string self.now.pin.now) 0 result out.old out.new }
+    {
+        let mut at = put_head(out, 10, session);
+        at = put_string(out, at, self.id);
+        at = put_string(out, at, self.entry);
+        at = put_string(out, at, self.seed);
+        at = put_four(out, at, self.policy);
+        put_string(out, at, self.pin)
+    }
+
+    // The fields from the flags up to the MAC, behind whatever stands in front of place k.
+    fn put_back(&self, k: usize, out: &mut [u8]) -> usize
+        requires { k + 13 + length self.now.friendly.now + length self.now.algorithm.now + length self.now.parameters.now ≤ length out.old }
+        ensures { (front before : List ℕ) → Wrote front 0 k before out.old → Wrote (front ++ key_flag_bytes (key_held self.now) ++ string self.now.friendly.now ++ string self.now.algorithm.now ++ string self.now.parameters.now ++ enc2 self.now.endorsed) 0 result before out.new }
+    {
+        let mut at = put(out, k, &self.flags());
+        at = put_string(out, at, self.friendly);
+        at = put_string(out, at, self.algorithm);
+        at = put_string(out, at, self.parameters);
+        put(out, at, &self.endorsed.to_be_bytes())
+    }
+}
+
+impl Order for KeyOrder<'_> {
+    ghost ordered = { λ i o. key_ordered i (key_held o) };
+
+    ghost call = { λ i o. key_call i (key_held o) };
+
+    ghost size = { λ o. 62 + length o.id.now + length o.entry.now + length o.seed.now + length o.pin.now + length o.friendly.now + length o.algorithm.now + length o.parameters.now };
+
+    fn is_in_range(&self, issuer: &Issuer<'_>) -> bool {
+        let names = has_length(self.friendly, 0, LONGEST_NAME)
+            & has_length(self.parameters, 0, LONGEST_PARAMETERS);
+        let pins = has_length(self.pin, 0, LONGEST_PIN_VALUE) & ((self.caching <= 1) & names);
+        let rest = has_length(self.seed, 0, LONGEST_SEED) & (self.is_pin() & pins);
+        is_ready(issuer.key, issuer.counter, 2) & (is_id(self.id) & rest)
+    }
+
+    // The lengths of two slices of any size might not add up in 64 bits.
+    fn length(&self) -> usize {
+        if LONGEST_CALL < self.entry.len() {
+            return self.entry.len();
+        }
+        let names = self.id.len() + self.entry.len() + self.seed.len() + self.pin.len();
+        let texts = self.friendly.len() + self.parameters.len() + self.algorithm.len();
+        KEY_FIXED + names + texts
+    }
+
+    fn write(&self, issuer: &Issuer<'_>, out: &mut [u8]) -> usize {
+        let k = key_of(issuer.key);
+        let sets = self.pin_kind == ISSUER_PIN;
+        let m = MacKey::new(&k, issuer.counter).key_under(
+            self.id,
+            self.entry,
+            self.seed,
+            self.policy,
+            self.policy_id,
+            sets,
+            self.pin,
+            &self.flags(),
+            self.friendly,
+            self.algorithm,
+            self.parameters,
+        );
+        let mut at = self.put_front(issuer.session, out);
+        at = self.put_back(at, out);
+        put(out, at, &m)
+    }
+
+    ghost keyed = { λ i o f. f.0.0 };
 }
 
 pub fn sks_build_key<'a>(
@@ -484,53 +543,89 @@ pub fn sks_build_key<'a>(
 ) -> u8
     ensures { told result written.new out.new ≡ key_issued (issuer_of session key.now counter) (key_of id.now entry.now seed.now policy policy_id.now pin_kind pin.now caching biometric export deletion usage friendly.now algorithm.now parameters.now endorsed) out.old }
 {
-    *written = 0;
-    if !is_key(
-        key, counter, id, seed, policy, policy_id, pin_kind, pin, caching, friendly, parameters,
-    ) {
-        return NO_FORM;
-    }
-    if LONGEST_CALL < entry.len() {
-        return NO_FORM;
-    }
-    let n = key_length(id, entry, seed, pin, friendly, algorithm, parameters);
-    if LONGEST_CALL < n {
-        return NO_FORM;
-    }
-    if out.len() < n {
-        return SHORT_REPLY;
-    }
-    *written = write_key(
-        session, key, counter, id, entry, seed, policy, policy_id, pin_kind, pin, caching,
-        biometric, export, deletion, usage, friendly, algorithm, parameters, endorsed, out,
-    );
-    DONE
+    let issuer = Issuer {
+        session,
+        key,
+        counter,
+    };
+    let order = KeyOrder {
+        id,
+        entry,
+        seed,
+        policy,
+        policy_id,
+        pin_kind,
+        pin,
+        caching,
+        biometric,
+        export,
+        deletion,
+        usage,
+        friendly,
+        algorithm,
+        parameters,
+        endorsed,
+    };
+    build(&order, &issuer, out, written)
 }
 
 // ---- 12 setCertificatePath
 
-fn write_path(
-    session: u32,
-    key: &[u8],
-    counter: u16,
+// The key's ID and public key stand in the MAC's data, and not in the call.
+#[derive(Clone, Copy)]
+struct PathOrder<'a> {
     key_handle: u32,
-    key_id: &[u8],
-    public_key: &[u8],
+    key_id: &'a [u8],
+    public_key: &'a [u8],
     count: u8,
-    certificates: &[u8],
-    out: &mut [u8],
-) -> usize
-    requires { (length key.now ≡ 32) × (42 + length certificates.now ≤ length out.old) }
-    ensures { Wrote (path_call (issuer_of session key.now counter) (path_of key_handle key_id.now public_key.now count certificates.now)) 0 result out.old out.new }
-{
-    let k = key_of(key);
-    let m = call_mac::path_under(&k, counter, key_id, public_key, certificates, 0, count);
-    let n = [count];
-    let mut at = put_head(out, 12, session);
-    at = put_four(out, at, key_handle);
-    at = put(out, at, &n);
-    at = put(out, at, certificates);
-    put(out, at, &m)
+    certificates: &'a [u8],
+}
+
+impl PathOrder<'_> {
+    // Certificates as they stand in a call: so many strings, none of them empty, and nothing behind them.
+    fn has_certificates(&self) -> bool
+        ensures { result ≡ test (certificates_ordered (path_held self.now)) }
+    {
+        let end = call_fields::behind_strings(self.certificates, 0, self.count);
+        let are_filled = call_form::are_filled(self.certificates, 0, self.count);
+        (1 <= self.count) & (are_filled & (end == self.certificates.len()))
+    }
+}
+
+impl Order for PathOrder<'_> {
+    ghost ordered = { λ i o. path_ordered i (path_held o) };
+
+    ghost call = { λ i o. path_call i (path_held o) };
+
+    ghost size = { λ o. 42 + length o.certificates.now };
+
+    fn is_in_range(&self, issuer: &Issuer<'_>) -> bool {
+        let public_fits = has_length(self.public_key, 1, usize::from(PUBLIC_KEY_BYTES));
+        let rest = is_id(self.key_id) & (public_fits & self.has_certificates());
+        is_ready(issuer.key, issuer.counter, 1) & rest
+    }
+
+    fn length(&self) -> usize {
+        CERTIFICATES + self.certificates.len() + MAC_BYTES
+    }
+
+    fn write(&self, issuer: &Issuer<'_>, out: &mut [u8]) -> usize {
+        let k = key_of(issuer.key);
+        let m = MacKey::new(&k, issuer.counter).path_under(
+            self.key_id,
+            self.public_key,
+            self.certificates,
+            0,
+            self.count,
+        );
+        let mut at = put_head(out, 12, issuer.session);
+        at = put_four(out, at, self.key_handle);
+        at = put(out, at, &[self.count]);
+        at = put(out, at, self.certificates);
+        put(out, at, &m)
+    }
+
+    ghost keyed = { λ i o f. f.0.0 };
 }
 
 pub fn sks_build_path<'a>(
@@ -547,51 +642,57 @@ pub fn sks_build_path<'a>(
 ) -> u8
     ensures { told result written.new out.new ≡ path_issued (issuer_of session key.now counter) (path_of key_handle key_id.now public_key.now count certificates.now) out.old }
 {
-    *written = 0;
-    if !is_path(key, counter, key_id, public_key, count, certificates) {
-        return NO_FORM;
-    }
-    let n = CERTIFICATES + certificates.len() + MAC_BYTES;
-    if LONGEST_CALL < n {
-        return NO_FORM;
-    }
-    if out.len() < n {
-        return SHORT_REPLY;
-    }
-    *written = write_path(
+    let issuer = Issuer {
         session,
         key,
         counter,
+    };
+    let order = PathOrder {
         key_handle,
         key_id,
         public_key,
         count,
         certificates,
-        out,
-    );
-    DONE
+    };
+    build(&order, &issuer, out, written)
 }
 
 // ---- 50 postDeleteKey, 51 postUnlockKey
 
-fn write_post(
-    session: u32,
-    key: &[u8],
-    counter: u16,
+#[derive(Clone, Copy)]
+struct PostOrder<'a> {
     method: u8,
     key_handle: u32,
-    authorization: &[u8],
-    out: &mut [u8],
-) -> usize
-    requires { (length key.now ≡ 32) × (43 + length authorization.now ≤ length out.old) }
-    ensures { Wrote (post_call (issuer_of session key.now counter) (post_of method key_handle authorization.now)) 0 result out.old out.new }
-{
-    let k = key_of(key);
-    let m = call_mac::post_under(&k, counter, method, authorization);
-    let mut at = put_head(out, method, session);
-    at = put_four(out, at, key_handle);
-    at = put_string(out, at, authorization);
-    put(out, at, &m)
+    authorization: &'a [u8],
+}
+
+impl Order for PostOrder<'_> {
+    ghost ordered = { λ i o. post_ordered i (post_held o) };
+
+    ghost call = { λ i o. post_call i (post_held o) };
+
+    ghost size = { λ o. 43 + length o.authorization.now };
+
+    fn is_in_range(&self, issuer: &Issuer<'_>) -> bool {
+        let known = (self.method == DELETES) | (self.method == UNLOCKS);
+        let rest = known & has_length(self.authorization, 1, LONGEST_AUTHORIZATION);
+        is_ready(issuer.key, issuer.counter, 1) & rest
+    }
+
+    fn length(&self) -> usize {
+        BEHIND_SUBJECT + HANDLE_BYTES + LENGTH_BYTES + self.authorization.len() + MAC_BYTES
+    }
+
+    fn write(&self, issuer: &Issuer<'_>, out: &mut [u8]) -> usize {
+        let k = key_of(issuer.key);
+        let m = MacKey::new(&k, issuer.counter).post_under(self.method, self.authorization);
+        let mut at = put_head(out, self.method, issuer.session);
+        at = put_four(out, at, self.key_handle);
+        at = put_string(out, at, self.authorization);
+        put(out, at, &m)
+    }
+
+    ghost keyed = { λ i o f. f.0.0 };
 }
 
 pub fn sks_build_post<'a>(
@@ -606,24 +707,17 @@ pub fn sks_build_post<'a>(
 ) -> u8
     ensures { told result written.new out.new ≡ post_issued (issuer_of session key.now counter) (post_of method key_handle authorization.now) out.old }
 {
-    *written = 0;
-    if !is_post(key, counter, method, authorization) {
-        return NO_FORM;
-    }
-    let fields = HANDLE_BYTES + LENGTH_BYTES + authorization.len();
-    if out.len() < BEHIND_SUBJECT + fields + MAC_BYTES {
-        return SHORT_REPLY;
-    }
-    *written = write_post(
+    let issuer = Issuer {
         session,
         key,
         counter,
+    };
+    let order = PostOrder {
         method,
         key_handle,
         authorization,
-        out,
-    );
-    DONE
+    };
+    build(&order, &issuer, out, written)
 }
 
 // ---- the two attestations, each checked with the counter of the call that it answers
@@ -644,7 +738,7 @@ pub fn sks_check_key<'a>(
         return false;
     }
     let k = key_of(key);
-    let made = call_mac::attested_key_under(&k, counter, id, public_key);
+    let made = MacKey::new(&k, counter).attested_key_under(id, public_key);
     hmac::is_same(attestation, &made)
 }
 
@@ -663,6 +757,6 @@ pub fn sks_check_close<'a>(
         return false;
     }
     let k = key_of(key);
-    let made = call_mac::attested_close_under(&k, counter, nonce);
+    let made = MacKey::new(&k, counter).attested_close_under(nonce);
     hmac::is_same(attestation, &made)
 }

@@ -7,378 +7,289 @@
 // a call, 2 a call on the store as the case before left it), its name, the length of the store, its records (kind 2: none), the call, the
 // chip bytes, the status, the reply, the records that change. A number has 2 bytes, the store's length 4, kind and status 1. A string is
 // its length and its bytes. Records are their number, then each as its place in the store and a string; zeros at its end are left out.
+//
+// The file is not checked: past its end a byte is 0, and a string is the shorter part that is there.
 
 #![tactic(auto)]
 
-ghost use Rattle.std.specs.Prelude.{◌≡◌, ◌≤◌, length, IfOk};
+ghost use Rattle.std.specs.Prelude.{◌≤◌, length};
 
-use std::fs::File;
+use std::alloc::{AllocError, Global};
 use std::io::Read;
 use std::{fs, io};
-use store_records::{byte_at, four_at, same, string_at, two_at};
+
+// No more of the file is read.
+const FILE_BYTES: u64 = 524_288;
+
+// The longest store: 257 records, one more than a store may have.
+const STORE_BYTES: usize = 65_792;
+
+const RECORD_BYTES: usize = 256;
+
+// The longest reply.
+const REPLY_BYTES: usize = 64;
 
 // What stands in the reply before a call.
 const FILL: u8 = 0xa5;
 
-// A case: what is a number by its value, what is longer by its place in the file. `next` is the place behind the case.
+// The statuses of document 01, each a column of the table.
+const COLUMNS: [u8; 14] = [0, 1, 2, 3, 4, 5, 6, 7, 8, 16, 17, 19, 20, 21];
+
+// What is left of the file.
 #[derive(Clone, Copy)]
-struct Case {
-    kind: u8,
-    name: usize,
-    size: usize,
-    records: usize,
-    call: usize,
-    chip: usize,
-    status: u8,
-    reply: usize,
-    changes: usize,
-    next: usize,
+struct Reader<'a> {
+    rest: &'a [u8],
 }
 
-// The place behind the cases tried so far, how many they are, how many were as expected, and how many of those gave each status.
+// Records of the file: how many, and from where on they are read.
 #[derive(Clone, Copy)]
+struct Records<'a> {
+    count: u16,
+    reader: Reader<'a>,
+}
+
+// What is tried in a case.
+#[derive(Clone, Copy, Debug, PartialEq, Eq)]
+enum Kind {
+    Format,
+    Call,
+    // A call on the store as the case before left it.
+    GoesOn,
+}
+
+#[derive(Clone, Copy)]
+struct Case<'a> {
+    kind: Kind,
+    name: &'a [u8],
+    size: u32,
+    records: Records<'a>,
+    call: &'a [u8],
+    chip: &'a [u8],
+    status: u8,
+    reply: &'a [u8],
+    changes: Records<'a>,
+}
+
+// Room for the store that a case is tried on, and for the same as it is expected. Both are kept from case to case.
+#[derive(Drop)]
+struct Rooms {
+    store: Vec<u8>,
+    wanted: Vec<u8>,
+}
+
+// How many cases were tried, and how many were as expected.
+#[derive(Clone, Copy, Debug, Default, PartialEq, Eq)]
 struct Tally {
-    at: usize,
     tried: u64,
     right: u64,
-    met: [u64; 256],
 }
 
-fn say(rt: &impl Print, text: &[u8]) -> io::Result<()> {
-    rt.write_all(text)
-}
-
-fn say_number(rt: &impl Print, n: u64) -> io::Result<()> {
-    rt.print(n)
-}
-
-fn least(a: usize, b: usize) -> usize
-    ensures { (result ≤ a) × (result ≤ b) }
-{
-    if a < b { a } else { b }
-}
-
-// The place behind the n bytes at a place, or the file's end where it has fewer.
-fn skip(f: &[u8], at: usize, n: usize) -> usize {
-    if f.len() < at {
-        return f.len();
+impl<'a> Reader<'a> {
+    // The next n bytes, or those of them that are there.
+    fn take(&mut self, n: usize) -> &'a [u8]
+        ensures { length result.now ≤ n }
+    {
+        let (taken, rest) = self.rest.split_at(n.min(self.rest.len()));
+        self.rest = rest;
+        taken
     }
-    if f.len() - at < n {
-        return f.len();
+
+    fn bytes<const N: usize>(&mut self) -> [u8; N] {
+        let taken = self.take(N);
+        let mut bytes = [0; N];
+        bytes[..taken.len()].copy_from_slice(taken);
+        bytes
     }
-    at + n
-}
 
-fn behind_string(f: &[u8], at: usize) -> usize {
-    skip(f, skip(f, at, 2), two_at(f, at))
-}
-
-fn behind_records(f: &[u8], at: usize) -> usize {
-    let n = two_at(f, at);
-    let mut place = skip(f, at, 2);
-    let mut i: usize = 0;
-    while i < n {
-        place = behind_string(f, skip(f, place, 2));
-        i += 1;
+    fn byte(&mut self) -> u8 {
+        u8::from_be_bytes(self.bytes())
     }
-    place
-}
 
-fn case_at(f: &[u8], at: usize) -> Case {
-    let name = skip(f, at, 1);
-    let size = behind_string(f, name);
-    let records = skip(f, size, 4);
-    let call = behind_records(f, records);
-    let chip = behind_string(f, call);
-    let status = behind_string(f, chip);
-    let reply = skip(f, status, 1);
-    let changes = behind_string(f, reply);
-    Case {
-        kind: byte_at(f, at),
-        name: name,
-        size: four_at(f, size) as usize,
-        records: records,
-        call: call,
-        chip: chip,
-        status: byte_at(f, status),
-        reply: reply,
-        changes: changes,
-        next: behind_records(f, changes),
+    fn two(&mut self) -> u16 {
+        u16::from_be_bytes(self.bytes())
     }
-}
 
-fn fill(s: &mut [u8], b: u8) {
-    let mut i: usize = 0;
-    while i < s.len() {
-        s[i] = b;
-        i += 1;
+    fn four(&mut self) -> u32 {
+        u32::from_be_bytes(self.bytes())
+    }
+
+    fn string(&mut self) -> &'a [u8] {
+        let n = self.two();
+        self.take(usize::from(n))
+    }
+
+    fn record(&mut self) -> (u16, &'a [u8]) {
+        (self.two(), self.string())
+    }
+
+    fn records(&mut self) -> Records<'a> {
+        let count = self.two();
+        let records = Records {
+            count,
+            reader: *self,
+        };
+        for _ in 0..count {
+            let _ = self.record();
+        }
+        records
+    }
+
+    fn case(&mut self) -> Case<'a> {
+        Case {
+            kind: Kind::from(self.byte()),
+            name: self.string(),
+            size: self.four(),
+            records: self.records(),
+            call: self.string(),
+            chip: self.string(),
+            status: self.byte(),
+            reply: self.string(),
+            changes: self.records(),
+        }
     }
 }
 
-// Record k becomes a text and zeros, as far as the store goes.
-fn put(s: &mut [u8], k: usize, text: &[u8])
-    requires { k ≤ 65535 }
-{
-    let from = k * 256;
-    let end = least(from + 256, s.len());
-    let mut i = from;
-    while i < end {
-        s[i] = byte_at(text, i - from);
-        i += 1;
+impl Records<'_> {
+    // Each record goes into the store: a text and zeros, as far as the store goes.
+    fn lay(self, store: &mut [u8]) {
+        let mut reader = self.reader;
+        for _ in 0..self.count {
+            let (place, text) = reader.record();
+            if let Some(record) = store.chunks_mut(RECORD_BYTES).nth(usize::from(place)) {
+                let n = text.len().min(record.len());
+                record[..n].copy_from_slice(&text[..n]);
+                record[n..].fill(0);
+            }
+        }
     }
 }
 
-// The records at a place of the file go into the store.
-fn lay(s: &mut [u8], f: &[u8], at: usize) {
-    let n = two_at(f, at);
-    let mut place = skip(f, at, 2);
-    let mut i: usize = 0;
-    while i < n {
-        let text = skip(f, place, 2);
-        put(s, two_at(f, place), string_at(f, text));
-        place = behind_string(f, text);
-        i += 1;
+impl From<u8> for Kind {
+    // A number that is none of a kind's is a call's.
+    fn from(code: u8) -> Kind {
+        match code {
+            0 => Kind::Format,
+            2 => Kind::GoesOn,
+            _ => Kind::Call,
+        }
     }
 }
 
-// The store that a case is given. One that goes on from the case before has it already.
-fn give(f: &[u8], c: Case, store: &mut [u8]) {
-    if c.kind == 2 {
-        return;
+impl Case<'_> {
+    // The case is tried. What comes back is the status that was given, where the case is not answered as expected.
+    fn fails_with(&self, rooms: &mut Rooms) -> Option<u8> {
+        let size = (self.size as usize)
+            .min(rooms.store.len())
+            .min(rooms.wanted.len());
+        let store = &mut rooms.store[..size];
+        let wanted = &mut rooms.wanted[..size];
+        let mut reply = [FILL; REPLY_BYTES];
+        let reply = &mut reply[..self.reply.len().min(REPLY_BYTES)];
+        self.lay(store, wanted);
+        let status = self.answer(store, reply);
+        if status == self.status && *reply == *self.reply && *store == *wanted {
+            None
+        } else {
+            Some(status)
+        }
     }
-    fill(store, 0);
-    lay(store, f, c.records);
+
+    // The store that the case is given, and the store that is expected. A case that goes on has the one before already.
+    fn lay(&self, store: &mut [u8], wanted: &mut [u8]) {
+        if self.kind != Kind::GoesOn {
+            store.fill(0);
+            self.records.lay(store);
+            wanted.fill(0);
+            self.records.lay(wanted);
+        }
+        self.changes.lay(wanted);
+    }
+
+    fn answer(&self, store: &mut [u8], reply: &mut [u8]) -> u8 {
+        match self.kind {
+            Kind::Format => token::format(store),
+            Kind::Call | Kind::GoesOn => token::call(store, self.call, self.chip, reply),
+        }
+    }
+}
+
+impl Rooms {
+    fn new(alloc: Global) -> Result<Self, AllocError> {
+        Ok(Rooms {
+            store: vec![in alloc; 0; STORE_BYTES]?,
+            wanted: vec![in alloc; 0; STORE_BYTES]?,
+        })
+    }
+}
+
+impl Tally {
+    fn count(&mut self, is_right: bool) {
+        self.tried = self.tried.wrapping_add(1);
+        self.right = self.right.wrapping_add(u64::from(is_right));
+    }
+}
+
+// A row of the table: the number of cases that gave each status, a dot for none. A name may be any bytes.
+fn print_row(rt: &impl Print, name: &[u8], met: &[u64; 256]) -> io::Result<()> {
+    for status in COLUMNS {
+        match met[usize::from(status)] {
+            0 => print!(rt; "   .")?,
+            n => print!(rt; " {n:>3}")?,
+        }
+    }
+    print!(rt; "  ")?;
+    rt.write_all(name)?;
+    println!(rt)
 }
 
 fn complain(rt: &impl Print, name: &[u8], status: u8) -> io::Result<()> {
-    say(rt, b"DIFFERS, status ")?;
-    say_number(rt, status as u64)?;
-    say(rt, b": ")?;
-    say(rt, name)?;
-    say(rt, b"\n")
+    print!(rt; "DIFFERS, status {status}: ")?;
+    rt.write_all(name)?;
+    println!(rt)
 }
 
-fn answer(f: &[u8], c: Case, store: &mut [u8], reply: &mut [u8]) -> u8 {
-    if c.kind == 0 {
-        return token::format(store);
-    }
-    token::call(store, string_at(f, c.call), string_at(f, c.chip), reply)
-}
-
-// Whether a case is answered as expected, on a store and a reply of the lengths that it asks for.
-fn is_met(
+// The next group of cases, and its row.
+fn try_group(
     rt: &impl Print,
-    f: &[u8],
-    c: Case,
-    store: &mut [u8],
-    wanted: &[u8],
-    reply: &mut [u8],
-) -> io::Result<bool> {
-    fill(reply, FILL);
-    let status = answer(f, c, store, reply);
-    if status == c.status && same(reply, string_at(f, c.reply)) && same(store, wanted) {
-        return Ok(true);
-    }
-    complain(rt, string_at(f, c.name), status)?;
-    Ok(false)
-}
-
-// The store is given twice: for the code, and for what is expected.
-fn run_case(
-    rt: &impl Print,
-    f: &[u8],
-    c: Case,
-    store: &mut [u8],
-    wanted: &mut [u8],
-    reply: &mut [u8],
-) -> io::Result<bool> {
-    give(f, c, store);
-    give(f, c, wanted);
-    lay(wanted, f, c.changes);
-    is_met(rt, f, c, store, wanted, reply)
-}
-
-fn try_case(
-    rt: &impl Print,
-    f: &[u8],
-    c: Case,
-    store: &mut [u8],
-    wanted: &mut [u8],
-) -> io::Result<bool> {
-    let mut reply = [0u8; 64];
-    let size = least(c.size, least(store.len(), wanted.len()));
-    let n = least(string_at(f, c.reply).len(), 64);
-    run_case(
-        rt,
-        f,
-        c,
-        &mut store[..size],
-        &mut wanted[..size],
-        &mut reply[..n],
-    )
-}
-
-// A number in four columns, a dot for none.
-fn cell(rt: &impl Print, n: u64) -> io::Result<()> {
-    if n < 10 {
-        say(rt, b"   ")?;
-    } else if n < 100 {
-        say(rt, b"  ")?;
-    } else {
-        say(rt, b" ")?;
-    }
-    if n == 0 {
-        say(rt, b".")
-    } else {
-        say_number(rt, n)
-    }
-}
-
-// The status of column i: those of document 01 are 0 to 8, 16, 17 and 19 to 21.
-fn status_of(i: usize) -> usize
-    ensures { result ≤ 21 }
-{
-    match i {
-        0..=8 => i,
-        9 => 16,
-        10 => 17,
-        11 => 19,
-        12 => 20,
-        _ => 21,
-    }
-}
-
-fn cells(rt: &impl Print, met: [u64; 256]) -> io::Result<()> {
-    let mut i: usize = 0;
-    while i < 14 {
-        cell(rt, met[status_of(i)])?;
-        i += 1;
-    }
-    Ok(())
-}
-
-fn row(rt: &impl Print, name: &[u8], met: [u64; 256]) -> io::Result<()> {
-    cells(rt, met)?;
-    say(rt, b"  ")?;
-    say(rt, name)?;
-    say(rt, b"\n")
-}
-
-fn counted(t: Tally, c: Case, is_right: bool) -> Tally {
-    let one = is_right as u64;
-    let k = c.status as usize;
-    let mut met = t.met;
-    met[k] = std::num::wrapping_add_u64(met[k], one);
-    Tally {
-        at: c.next,
-        tried: std::num::wrapping_add_u64(t.tried, 1),
-        right: std::num::wrapping_add_u64(t.right, one),
-        met: met,
-    }
-}
-
-// The n cases behind those tried so far.
-fn cases(
-    rt: &impl Print,
-    f: &[u8],
-    t: Tally,
-    n: usize,
-    store: &mut [u8],
-    wanted: &mut [u8],
-) -> io::Result<Tally> {
-    let mut r = t;
-    let mut i: usize = 0;
-    while i < n {
-        let c = case_at(f, r.at);
-        r = counted(r, c, try_case(rt, f, c, store, wanted)?);
-        i += 1;
-    }
-    Ok(r)
-}
-
-// The group behind them, and its row.
-fn group(
-    rt: &impl Print,
-    f: &[u8],
-    t: Tally,
-    store: &mut [u8],
-    wanted: &mut [u8],
-) -> io::Result<Tally> {
-    let count = behind_string(f, t.at);
-    let start = Tally {
-        at: skip(f, count, 2),
-        tried: t.tried,
-        right: t.right,
-        met: [0; 256],
-    };
-    let r = cases(rt, f, start, two_at(f, count), store, wanted)?;
-    let met = r.met;
-    row(rt, string_at(f, t.at), met)?;
-    Ok(r)
-}
-
-// Room for the longest store: 257 records, one more than a store may have.
-fn room() -> [u8; 65792]
-    ensures { 65792 ≡ length result }
-{
-    [0; 65792]
-}
-
-// Room for the file.
-fn room_for_file() -> [u8; 524288]
-    ensures { 524288 ≡ length result }
-{
-    [0; 524288]
-}
-
-fn groups(rt: &impl Print, f: &[u8], store: &mut [u8], wanted: &mut [u8]) -> io::Result<Tally> {
-    let n = two_at(f, 0);
-    let mut t = Tally {
-        at: 2,
-        tried: 0,
-        right: 0,
-        met: [0; 256],
-    };
-    let mut i: usize = 0;
-    while i < n {
-        t = group(rt, f, t, store, wanted)?;
-        i += 1;
-    }
-    Ok(t)
-}
-
-fn run(rt: &impl Print, f: &[u8]) -> io::Result<()> {
-    let mut store = room();
-    let mut wanted = room();
-    say(
-        rt,
-        b"   0   1   2   3   4   5   6   7   8  16  17  19  20  21\n",
-    )?;
-    let t = groups(rt, f, &mut store, &mut wanted)?;
-    say_number(rt, t.tried)?;
-    say(rt, b" cases, ")?;
-    say_number(rt, t.right)?;
-    say(rt, b" as expected\n")
-}
-
-// Reads until the buffer is full or the file ends. What comes back is how many bytes were read.
-fn read_full(file: &mut File, buf: &mut [u8]) -> io::Result<usize>
-    ensures { IfOk result (λ n. n ≤ length buf.new) }
-{
-    let mut done: usize = 0;
-    while done < buf.len() {
-        let n = file.read(&mut buf[done..])?;
-        if n == 0 {
-            break;
+    reader: &mut Reader,
+    rooms: &mut Rooms,
+    tally: &mut Tally,
+) -> io::Result<()> {
+    let name = reader.string();
+    let mut met = [0u64; 256];
+    for _ in 0..reader.two() {
+        let case = reader.case();
+        let failed = case.fails_with(rooms);
+        tally.count(failed.is_none());
+        match failed {
+            None => {
+                let n = &mut met[usize::from(case.status)];
+                *n = n.wrapping_add(1);
+            }
+            Some(status) => complain(rt, case.name, status)?,
         }
-        done += n;
     }
-    Ok(done)
+    print_row(rt, name, &met)
+}
+
+fn run(rt: &(impl Print + AllocGlobal), file: &[u8]) -> io::Result<()> {
+    let mut rooms = Rooms::new(rt.alloc())?;
+    for status in COLUMNS {
+        print!(rt; "{status:>4}")?;
+    }
+    println!(rt)?;
+    let mut reader = Reader { rest: file };
+    let mut tally = Tally::default();
+    for _ in 0..reader.two() {
+        try_group(rt, &mut reader, &mut rooms, &mut tally)?;
+    }
+    println!(rt; "{} cases, {} as expected", tally.tried, tally.right)
 }
 
 fn main(rt: HostRuntime) -> io::Result<()> {
-    let mut source = fs::open(&rt, "cases")?;
-    let mut file = room_for_file();
-    let n = read_full(&mut source, &mut file)?;
-    run(&rt, &file[..n])
+    let mut file = Vec::new(rt.alloc());
+    fs::open(&rt, "cases")?
+        .take(FILE_BYTES)
+        .read_to_end(&mut file)?;
+    run(&rt, &file)
 }

@@ -1,39 +1,31 @@
--- A ladder climbed rung by rung comes to the status of its list, and the status says what the paper's outcome is.
+-- Tests asked one after the other come to the status of their list, and the status says what the paper's outcome is.
 use mathlib.Core.Path.{◌≡◌, refl, sym, ◌∙◌}
 use mathlib.Core.Bool.{Bool, true, false, cond}
 use mathlib.Core.List.{List, [], ◌∷◌}
 use Prim.Native.Nat.{ℕ, zero, suc}
 use native.Mathlib.Omega.{arith}
 use Rattle.paper.specs.Form.{test, Fact, Fault, ◌gives◌, settle}
+use Rattle.paper.specs.Refusal.{number}
+use Rattle.paper.specs.declared.Refusal.{Refusal}
+use Rattle.paper.specs.declared.Refusal.TheVariants.{Wrong, NoRoom, MacDiffers, NotVerified, NotOpen, NotFit, NoKey, NoAlgorithm, NoForm, BreaksRule, Unsound, NoParent, ShortReply}
 use Rattle.paper.proofs.Forms.{both, contrary, Clear}
-use Rattle.method_acts.specs.Rungs.{status, or_else, climb, proper}
+use Rattle.method_acts.specs.Rungs.{status, proper}
 
--- one rung
-pub kept : (n : ℕ) (t : Bool) (s : ℕ) → (n ≡ 0 → ⊥) → n ≡ or_else n t s
-unfolding or_else
-kept zero t s h = absurd (h refl)
-kept (suc n) t s h = refl
-
-pub asked : {n : ℕ} {t : Bool} (s : ℕ) (b : Bool) → n ≡ 0 → t ≡ b → cond b s 0 ≡ or_else n t s
-unfolding or_else
-asked s b e f = rw (e, f)
-
--- a refusal that stands is kept to the top
-pub stands : (n : ℕ) (fs : List Fault) → (n ≡ 0 → ⊥) → climb n fs ≡ n
-unfolding or_else
-stands zero fs h = absurd (h refl)
-stands (suc n) [] h = refl
-stands (suc n) ((φ gives s) ∷ fs) h = stands (suc n) fs h
-
-pub climbed : (fs : List Fault) → proper fs ≡ true → climb 0 fs ≡ status fs
-unfolding or_else status
-climbed [] e = refl
-climbed ((φ gives zero) ∷ fs) e = contrary (sym e)
-climbed ((φ gives suc s) ∷ fs) e = go (test φ) (climbed fs e)
-  where
-    go : (b : Bool) → climb 0 fs ≡ settle fs (λ n. n) 0 → climb (cond b (suc s) 0) fs ≡ cond b (suc s) (settle fs (λ n. n) 0)
-    go true w = stands (suc s) fs (λ z. omega arith)
-    go false w = w
+-- no refusal has the number 0
+pub no-zero : (e : Refusal) → number e ≡ 0 → ⊥
+no-zero Wrong z = absurd (omega arith)
+no-zero NoRoom z = absurd (omega arith)
+no-zero MacDiffers z = absurd (omega arith)
+no-zero NotVerified z = absurd (omega arith)
+no-zero NotOpen z = absurd (omega arith)
+no-zero NotFit z = absurd (omega arith)
+no-zero NoKey z = absurd (omega arith)
+no-zero NoAlgorithm z = absurd (omega arith)
+no-zero NoForm z = absurd (omega arith)
+no-zero BreaksRule z = absurd (omega arith)
+no-zero Unsound z = absurd (omega arith)
+no-zero NoParent z = absurd (omega arith)
+no-zero ShortReply z = absurd (omega arith)
 
 -- what is refused with n, and what is done where none applies
 abbrev pub on_status : {A : Type 0} → ℕ → (ℕ → A) → A → A
@@ -62,13 +54,13 @@ module _ {A : Type 0} (fs : List Fault) (refused : ℕ → A) (done : A) (e : pr
       go zero h = absurd (h refl)
       go (suc n) h = refl
 
--- the same by a status that the code has told
-module _ {A : Type 0} (fs : List Fault) (refused : ℕ → A) (done : A) (e : proper fs ≡ true) {n : ℕ} (told : n ≡ status fs) where
-  pub told_not : (n ≡ 0 → ⊥) → settle fs refused done ≡ refused n
-  told_not h = settle_not fs refused done e (λ z. h (told ∙ z)) ∙ rw told
+-- the same by what the code has told: a refusal, or none
+module _ {A : Type 0} (fs : List Fault) (refused : ℕ → A) (done : A) (p : proper fs ≡ true) where
+  pub told_not : (e : Refusal) → number e ≡ status fs → settle fs refused done ≡ refused (number e)
+  told_not e f = settle_not fs refused done p (λ z. no-zero e (f ∙ z)) ∙ rw f
 
-  pub told-done : n ≡ 0 → settle fs refused done ≡ done
-  told-done z = settle-done fs refused done e (sym told ∙ z)
+  pub told-done : 0 ≡ status fs → settle fs refused done ≡ done
+  told-done z = settle-done fs refused done p (sym z)
 
 -- status 0 tells that no refusal of the list applies
 pub cleared : (fs : List Fault) → proper fs ≡ true → status fs ≡ 0 → Clear fs

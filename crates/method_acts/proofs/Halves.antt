@@ -1,5 +1,4 @@
--- A ladder climbed in halves, so that a call that the first half refuses does not pay for the second; what status 0 tells of the
--- first rung; and how long a call's string is.
+-- A list asked in halves, so that a call that the first half refuses does not pay for the second; what status 0 tells of the first rung; and how long a call's string is.
 use mathlib.Core.Path.{◌≡◌, refl, sym, ◌∙◌}
 use mathlib.Core.Bool.{Bool, true, false, not, cond}
 use mathlib.Core.List.{List, [], ◌∷◌, ◌++◌}
@@ -10,7 +9,10 @@ use Rattle.paper.specs.Bytes.{two, string_at}
 use Rattle.paper.specs.Form.{Form, no, test, Fault, ◌gives◌, settle}
 use Rattle.paper.proofs.Forms.{contrary}
 use Rattle.laws.proofs.Bytes.{part_short}
+use Rattle.paper.specs.Refusal.{number}
+use Rattle.paper.specs.declared.Refusal.{Refusal}
 use Rattle.method_acts.specs.Rungs.{status, proper}
+use Rattle.method_acts.proofs.Climbs.{no-zero}
 
 first_stands : (fs gs : List Fault) → (status fs ≡ 0 → ⊥) → status fs ≡ status (fs ++ gs)
 unfolding status
@@ -33,12 +35,12 @@ second_asked ((φ gives suc s) ∷ fs) gs e z = go (test φ) (second_asked fs gs
     go true w z = absurd (omega arith)
     go false w z = w z
 
-module _ (fs gs : List Fault) {n : ℕ} (f : n ≡ status fs) where
-  pub half_refused : (n ≡ 0 → ⊥) → n ≡ status (fs ++ gs)
-  half_refused h = f ∙ first_stands fs gs (λ z. h (f ∙ z))
+module _ (fs gs : List Fault) where
+  pub half_refused : {n : ℕ} (e : Refusal) → n ≡ number e → number e ≡ status fs → n ≡ status (fs ++ gs)
+  half_refused e r f = r ∙ f ∙ first_stands fs gs (λ z. no-zero e (f ∙ z))
 
-  pub half_passed : proper fs ≡ true → n ≡ 0 → {m : ℕ} → m ≡ status gs → m ≡ status (fs ++ gs)
-  half_passed e z g = g ∙ second_asked fs gs e (sym f ∙ z)
+  pub half_passed : proper fs ≡ true → 0 ≡ status fs → {m : ℕ} → m ≡ status gs → m ≡ status (fs ++ gs)
+  half_passed p z g = g ∙ second_asked fs gs p (sym z)
 
 -- the first rung is the form
 pub form_held : (φ : Form) (n : ℕ) (fs : List Fault) → status ((no φ gives suc n) ∷ fs) ≡ 0 → test φ ≡ true

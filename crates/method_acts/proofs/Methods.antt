@@ -1,5 +1,5 @@
 -- A method is its refusals and then what it does: what the status of the refusals says of its answer. And stores out of range.
-use mathlib.Core.Path.{◌≡◌, refl, sym, ◌∙◌}
+use mathlib.Core.Path.{◌≡◌, refl, ◌∙◌}
 use mathlib.Core.Bool.{true}
 use mathlib.Core.List.{List}
 use Prim.Native.Nat.{ℕ, ◌/◌, ◌≤◌, ◌<◌}
@@ -10,10 +10,12 @@ use Rattle.paper.specs.Records.{records}
 use Rattle.paper.specs.Act.{Out, plain}
 use Rattle.store_records.proofs.Views.{length-records}
 use Rattle.store_edits.proofs.Puts.{unchanged}
+use Rattle.paper.specs.Refusal.{number}
+use Rattle.paper.specs.declared.Refusal.{Refusal}
 use Rattle.method_acts.specs.Rungs.{status, proper}
 use Rattle.method_acts.specs.declared.Reply.{Reply}
 use Rattle.method_acts.specs.Answers.{Answers, bare_reply}
-use Rattle.method_acts.proofs.Climbs.{settle-done, settle_not}
+use Rattle.method_acts.proofs.Climbs.{told_not, told-done}
 use Rattle.method_acts.specs.Range.{in_range}
 
 -- the outcome o: one of the refusals fs, which change nothing, or what is done
@@ -21,13 +23,12 @@ pub record Method (o : Out) (fs : List Fault) (rs : List Rec) (done : Out) : Typ
   pub shape : o ≡ settle fs (λ n. plain n rs) done
   pub numbered : proper fs ≡ true
 
-module _ {o done : Out} {fs : List Fault} (s : List ℕ) (m : Method o fs (records s) done) {n : ℕ} (told : n ≡ status fs) where
-  pub refused : (n ≡ 0 → ⊥) → Answers o (bare_reply n) s s
-  refused h =
-      rw (m.shape ∙ settle_not fs (λ n. plain n (records s)) done m.numbered (λ z. h (told ∙ z)), told) (record { reply = refl; store = unchanged s })
+module _ {o done : Out} {fs : List Fault} (s : List ℕ) (m : Method o fs (records s) done) where
+  pub refused : (e : Refusal) → number e ≡ status fs → Answers o (bare_reply (number e)) s s
+  refused e f = rw (m.shape ∙ told_not fs (λ n. plain n (records s)) done m.numbered e f) (record { reply = refl; store = unchanged s })
 
-  pub went : {r : Reply} {t : List ℕ} → n ≡ 0 → Answers done r s t → Answers o r s t
-  went z a = rw (m.shape ∙ settle-done fs (λ n. plain n (records s)) done m.numbered (sym told ∙ z)) a
+  pub went : {r : Reply} {t : List ℕ} → 0 ≡ status fs → Answers done r s t → Answers o r s t
+  went z a = rw (m.shape ∙ told-done fs (λ n. plain n (records s)) done m.numbered z) a
 
 -- stores of more than 256 records
 module _ (f : List Rec → Out) (s : List ℕ) where

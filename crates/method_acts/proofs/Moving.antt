@@ -2,23 +2,15 @@
 use mathlib.Core.Path.{◌≡◌, refl}
 use mathlib.Core.Bool.{Bool, true, false, cond, ◌&&◌}
 use mathlib.Core.List.{List, [], ◌∷◌, map}
-use mathlib.Core.Option.{none, some as just}
-use Prim.Native.Nat.{ℕ, ◌+◌, ◌/◌, ◌%◌}
-use native.Mathlib.Numerals.{add-one}
+use mathlib.Core.Option.{some as just}
+use Prim.Native.Nat.{ℕ}
 use lib.Dec.{eqb}
-use lib.ListN.{set}
-use Rattle.paper.specs.Bytes.{enc2, over}
 use Rattle.paper.specs.Form.{Rec, test, only}
 use Rattle.paper.specs.Records.{kind, own, session, records, SESSION, is, bears, room, insert}
 use Rattle.paper.specs.Act.{perform, inside, refuse, advance, moved}
 use Rattle.store_records.specs.View.{Becomes}
 use Rattle.store_records.proofs.Views.{after}
 use Rattle.method_acts.specs.Answers.{Answers}
-
--- two bytes written over
-pub over-two : (k n : ℕ) (r : Rec) → set (set r k (n / 256 % 256)) (k + 1) (n % 256) ≡ over k (enc2 n) r
-unfolding over
-over-two k n r = rw (add-one k)
 
 -- a session's record bears its handle, so that the edit of the session's own records is the edit of all
 within-own : (a b c : Bool) (x y : Rec) → cond c (cond (a && (b && c)) y x) x ≡ cond (a && (b && c)) y x

@@ -1,19 +1,16 @@
--- A list of refusals as a status: that of the first that holds, or 0. And the same asked rung by rung, which is how code asks it.
-use Rattle.std.specs.Prelude.{Bool, true, false, ◌&&◌, cond, List, [], ◌∷◌, ℕ, zero, suc}
-use Rattle.paper.specs.Form.{test, Fault, ◌gives◌, settle}
+-- A list of refusals as a status: that of the first that holds, or 0. And what code tells, as the same status.
+use Rattle.std.specs.Prelude.{Bool, true, false, ◌&&◌, List, [], ◌∷◌, ℕ, zero, suc, Result, Ok, Err}
+use Rattle.paper.specs.Form.{Fault, ◌gives◌, settle}
+use Rattle.paper.specs.Refusal.{number}
+use Rattle.paper.specs.declared.Refusal.{Refusal}
 
 unfoldable pub status : List Fault → ℕ
 status fs = settle fs (λ n. n) 0
 
--- One rung: a refusal that stands is kept, else this one is asked.
-unfoldable pub or_else : ℕ → Bool → ℕ → ℕ
-or_else zero t s = cond t s 0
-or_else (suc n) t s = suc n
-
--- The rungs of a list, from the status that the rungs before them came to.
-abbrev pub climb : ℕ → List Fault → ℕ
-climb n [] = n
-climb n ((φ gives s) ∷ fs) = climb (or_else n (test φ) s) fs
+-- The status that a function which refuses tells: the number of its refusal, or 0.
+abbrev pub number_of : Result (Unit {0}) Refusal → ℕ
+number_of (Ok u) = 0
+number_of (Err e) = number e
 
 -- No refusal has the status 0.
 abbrev pub is_number : ℕ → Bool

@@ -1,10 +1,12 @@
-// What the methods share: the order of refusals as code, rung by rung, and what a call comes to, done to the store. Every test is total,
-// so that all of them may be asked and the code reads as the paper's list does. The meaning is that of the paper's Act.
+// What the methods share: the order of refusals as code, rung by rung, and what a call comes to, done to the store. A function that
+// refuses asks one test after the other and stops at the first that holds, so that the code reads as the paper's list does. The meaning
+// is that of the paper's Act.
 
 #![tactic(auto)]
 
-ghost use Rattle.std.specs.Prelude.{◌≡◌, ◌&&◌, ◌||◌, [], map, ◌≤◌, get_or, set};
-ghost use Rattle.method_acts.specs.Rungs.{or_else, status};
+ghost use Rattle.std.specs.Prelude.{◌≡◌, true, false, ◌&&◌, ◌||◌, [], map, ◌≤◌, get_or, set, MatchResult};
+ghost use Rattle.paper.specs.Refusal.{number};
+ghost use Rattle.method_acts.specs.Rungs.{number_of, status};
 ghost use Rattle.method_acts.specs.Answers.{bare_reply, Answers};
 ghost use Rattle.std.proofs.Math.Option.{some as just};
 ghost use Rattle.paper.specs.Bytes.{enc2, over};
@@ -17,9 +19,9 @@ ghost use Rattle.store_session.specs.Decoded.{value_of};
 ghost use Rattle.method_acts.specs.Names.{named};
 ghost use Rattle.paper.specs.Act as act;
 
-use paper::{MAC_COUNTER, MAC_DIFFERS, MOST_OBJECTS, NEXT_OBJECT, NO_ROOM, RECORD_BYTES};
-use store_edits::{copy_of, put};
-use store_records::{Choice, bears, byte_at, is_that, is_within, record_at, text_at, two_at};
+use paper::{MAC_COUNTER, MOST_OBJECTS, NEXT_OBJECT, Refusal};
+use store_edits::{Rewrite, rewrite_chosen};
+use store_records::{Choice, bears, byte_at, is_within, records, text_at, two_at};
 use store_session::Session;
 
 // ---- refusals and replies
@@ -43,17 +45,21 @@ pub fn bare(n: u8) -> Reply
     }
 }
 
-// The refusal n stands; if there is none, s where t holds.
-pub fn fault(n: u8, t: bool, s: u8) -> u8
-    ensures { result ≡ or_else n t s }
+// A refusal with nothing in the reply but its number.
+pub fn refused(e: Refusal) -> Reply
+    ensures { result ≡ bare_reply (number e) }
 {
-    if n != 0 {
-        return n;
+    bare(u8::from(e))
+}
+
+// The refusal e where something is wrong.
+pub fn refuse_if(wrong: bool, e: Refusal) -> Result<(), Refusal>
+    ensures { MatchResult result (λ u. wrong ≡ false) (λ f. (f ≡ e) × (wrong ≡ true)) }
+{
+    if wrong {
+        return Err(e);
     }
-    if t {
-        return s;
-    }
-    0
+    Ok(())
 }
 
 // Two tests joined. Both are made, whatever the first says.
@@ -76,21 +82,21 @@ pub fn either(a: bool, b: bool) -> bool
 pub fn fresh(t: u32, x: Session) -> u64
     ensures { result ≡ fresh_handle t (value_of x) }
 {
-    (t as u64) + (x.next as u64)
+    u64::from(t) + u64::from(x.next)
 }
 
 // Whether so many uses of the MAC counter would pass the limit, and whether object numbers are used up.
 pub fn passes_limit(x: Session, used: u8) -> bool
     ensures { result ≡ test (passes_limit used (value_of x)) }
 {
-    let n = (x.counter as u32) + (used as u32);
-    !(n <= (x.limit as u32))
+    let n = u32::from(x.counter) + u32::from(used);
+    !(n <= u32::from(x.limit))
 }
 
 pub fn is_used_up(x: Session) -> bool
     ensures { result ≡ test (objects_used_up (value_of x)) }
 {
-    !((x.next as usize) <= MOST_OBJECTS)
+    !(usize::from(x.next) <= MOST_OBJECTS)
 }
 
 // Whether an ID is taken: by a PUK, a PIN policy or a key of the session.
@@ -109,15 +115,7 @@ fn is_named(r: &[u8], t: u32, name: &[u8]) -> bool
 pub fn is_taken(s: &[u8], t: u32, name: &[u8]) -> bool
     ensures { result ≡ test (taken name.now (block t (records s.now))) }
 {
-    let n = s.len() / RECORD_BYTES;
-    let mut i: usize = 0;
-    while i < n {
-        if is_named(record_at(s, i), t, name) {
-            return true;
-        }
-        i += 1;
-    }
-    false
+    records(s).any(|r| is_named(r, t, name))
 }
 
 // Whether a handle is not 0 and what was found by it is of another kind.
@@ -128,36 +126,38 @@ pub fn is_missing(found: &[u8], kind: u8, handle: u32) -> bool
 }
 
 // The last that is asked of a call that makes an object: its MAC, of which every byte is looked at, and an object number.
-pub fn seal(x: Session, given: &[u8], made: &[u8; 32]) -> u8
-    ensures { result ≡ status (sealed_by given.now made.now (value_of x)) }
+#[tactic(auto, unfolding(crate::specs::Rungs::status))]
+pub fn seal(x: Session, given: &[u8], made: &[u8; 32]) -> Result<(), Refusal>
+    ensures { number_of result ≡ status (sealed_by given.now made.now (value_of x)) }
 {
-    let n = fault(0, !hmac::is_same(given, made), MAC_DIFFERS);
-    fault(n, is_used_up(x), NO_ROOM)
+    refuse_if(!hmac::is_same(given, made), Refusal::MacDiffers)?;
+    refuse_if(is_used_up(x), Refusal::NoRoom)?;
+    Ok(())
 }
 
-fn with_two(mut r: [u8; 256], k: usize, n: usize) -> [u8; 256]
+// A number of two bytes written over those from place k on.
+fn set_two(r: &mut [u8; 256], k: usize, n: u16)
     requires { k ≤ 254 }
-    ensures { result ≡ over k (enc2 n) r }
+    ensures { r.new ≡ over k (enc2 n) r.old }
 {
-    r[k] = (n / 256 % 256) as u8;
-    r[k + 1] = (n % 256) as u8;
-    r
+    r[k..k + 2].copy_from_slice(&n.to_be_bytes());
 }
 
-fn moved(r: [u8; 256], objects: u8, used: u8) -> [u8; 256]
-    ensures { result ≡ moved_on objects used r }
-{
-    let next = two_at(&r, NEXT_OBJECT) + (objects as usize);
-    let counter = two_at(&r, MAC_COUNTER) + (used as usize);
-    with_two(with_two(r, MAC_COUNTER, counter), NEXT_OBJECT, next)
+// How far a session's counters move: its object numbers, and its MAC counter. Each is cut to two bytes.
+#[derive(Drop)]
+struct Moved {
+    objects: u8,
+    used: u8,
 }
 
-fn advance_at(s: &mut [u8], i: usize, t: u32, objects: u8, used: u8)
-    ensures { Becomes (set (records s.old) i (advanced t objects used (get_or (records s.old) i []))) s.old s.new }
-{
-    if is_that(record_at(s, i), paper::SESSION, t, t) {
-        let r = moved(copy_of(s, i), objects, used);
-        put(s, i, &r);
+impl Rewrite for Moved {
+    ghost makes = { λ m. moved_on m.objects m.used };
+
+    fn rewrite(&self, r: &mut [u8; 256]) {
+        let next = two_at(r, NEXT_OBJECT) as u16;
+        let counter = two_at(r, MAC_COUNTER) as u16;
+        set_two(r, MAC_COUNTER, counter.wrapping_add(u16::from(self.used)));
+        set_two(r, NEXT_OBJECT, next.wrapping_add(u16::from(self.objects)));
     }
 }
 
@@ -165,20 +165,23 @@ fn advance_at(s: &mut [u8], i: usize, t: u32, objects: u8, used: u8)
 pub fn advance(s: &mut [u8], t: u32, objects: u8, used: u8)
     ensures { Becomes (map (advanced t objects used) (records s.old)) s.old s.new }
 {
-    let n = s.len() / RECORD_BYTES;
-    let mut i: usize = 0;
-    while i < n {
-        advance_at(s, i, t, objects, used);
-        i += 1;
-    }
+    let own = Choice::That(paper::SESSION, t, t);
+    rewrite_chosen(s, own, &Moved { objects, used });
 }
 
-// A refused call: its session goes with all its records.
+// A refused call: its session goes with all its records. By a status, and by a refusal.
+#[tactic(auto, unfolding(paper::specs::Act::perform))]
 pub fn refuse(s: &mut [u8], t: u32, n: u8) -> Reply
     ensures { Answers (perform t (act.refuse n) (records s.old)) result s.old s.new }
 {
     store_edits::free_session(s, t);
     bare(n)
+}
+
+pub fn reject(s: &mut [u8], t: u32, e: Refusal) -> Reply
+    ensures { Answers (perform t (act.refuse (number e)) (records s.old)) result s.old s.new }
+{
+    refuse(s, t, u8::from(e))
 }
 
 // A new record of the session, if there is a free place.
@@ -193,13 +196,13 @@ pub fn place(
     ensures { Answers (perform t (act.inside handle attestation (advanced t 1 used) (just r.now)) (records s.old)) result s.old s.new }
 {
     if !store_records::has(s, Choice::Free) {
-        return refuse(s, t, NO_ROOM);
+        return reject(s, t, Refusal::NoRoom);
     }
     advance(s, t, 1, used);
     store_edits::insert(s, r);
     Reply {
         status: paper::DONE,
-        handle: handle,
-        attestation: attestation,
+        handle,
+        attestation,
     }
 }

@@ -1,14 +1,9 @@
 -- What method 12 comes to, by its status: refused with it, or two edits of the session's own records, one after the other.
 use mathlib.Core.Path.{◌≡◌, refl, sym, ap, ◌∙◌}
 use mathlib.Core.Bool.{Bool, true, false, ◌&&◌, cond}
-use mathlib.Core.List.{List, [], ◌∷◌, ◌++◌, map}
-use Prim.Native.Nat.{ℕ, suc, ◌+◌, ◌<◌}
-use native.Mathlib.Nat.{add-zero, add-suc, suc-add}
-use native.Mathlib.Numerals.{add-one}
+use mathlib.Core.List.{List, [], ◌∷◌, map}
+use Prim.Native.Nat.{ℕ}
 use lib.Dec.{eqb}
-use lib.ListN.{length, get_or, set, take}
-use lib.Seq.{sets, take-suc, length-take-le}
-use native.Mathlib.Omega.{arith}
 use Rattle.sha256.specs.Sha256.{SHA256}
 use Rattle.paper.specs.Form.{Rec, Form, test, only, Fault}
 use Rattle.paper.specs.Records.{SessionValue, records, kind, own, session, SESSION, KEY, is, at, bears, block}
@@ -20,16 +15,6 @@ use Rattle.store_records.proofs.Views.{after}
 use Rattle.method_acts.specs.Rungs.{status}
 use Rattle.method_acts.proofs.Climbs.{settle-done, settle_not}
 use Rattle.method_acts.specs.Answers.{Answers, bare_reply}
-
--- one byte more is written over
-sets_next : (r xs : List ℕ) (k v : ℕ) → sets r k (xs ++ (v ∷ [])) ≡ set (sets r k xs) (k + length xs) v
-sets_next r [] k v = rw (add-zero k)
-sets_next r (x ∷ xs) k v = sets_next (set r k x) xs (suc k) v ∙ rw (suc-add k (length xs), add-suc k (length xs))
-
-pub over_more : (r d : List ℕ) (k i : ℕ) → i < length d → set (sets r k (take i d)) (k + i) (get_or d i 0) ≡ sets r k (take (i + 1) d)
-over_more r d k i h =
-    let l : length (take i d) ≡ i = length-take-le i d (omega arith) in
-    rw (add-one i, take-suc d i 0 h, sets_next r (take i d) k (get_or d i 0), l)
 
 -- an edit of a record by its session leaves a record of another session
 off : (a b c : Bool) (x y : Rec) → c ≡ false → cond (a && (b && c)) y x ≡ x

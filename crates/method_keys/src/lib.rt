@@ -4,8 +4,7 @@
 
 #![tactic(auto)]
 
-ghost use Rattle.std.specs.Prelude.{◌≡◌, [], map, get_or, set};
-ghost use Rattle.paper.specs.Bytes.{over};
+ghost use Rattle.std.specs.Prelude.{◌≡◌, [], map};
 ghost use Rattle.paper.specs.Form.{test, some, only};
 ghost use Rattle.paper.specs.Records.{records, block, is};
 ghost use Rattle.paper.specs.Sound.{governs as governs_it};
@@ -16,22 +15,22 @@ ghost use Rattle.store_records.specs.View.{Becomes};
 ghost use Rattle.store_draft.specs.Drafts.{laid};
 ghost use Rattle.store_session.specs.Decoded.{value_of};
 ghost use Rattle.call_fields.specs.Fields.{key_fields, key_of, path_fields};
-ghost use Rattle.method_acts.specs.Rungs.{status};
+ghost use Rattle.method_acts.specs.Rungs.{number_of, status};
 ghost use Rattle.method_acts.specs.Answers.{Answers};
 ghost use Rattle.method_keys.specs.Keys.{other_pin, unlike_in, cut};
 
 use call_fields::{KeyFields, PathFields};
-use method_acts::{Reply, fault, fresh, is_missing, is_taken, passes_limit, refuse, seal};
+use call_mac::MacKey;
+use method_acts::{Reply, fresh, is_missing, is_taken, passes_limit, refuse_if, reject, seal};
 use paper::{
-    BEHIND_SUBJECT, BREAKS_RULE, BY_PIN, BY_PUK, CHIP_PUBLIC_KEY, DIGEST, DIGEST_BYTES, DONE,
-    GROUPING, HOME, ID_BYTES, KEY_END, LAST_PROTECTION, MAC_BYTES, MAC_DIFFERS, NO_ALGORITHM,
-    NO_FORM, NO_KEY, OWN, PARENT, PATH_SET, PIN_BYTES, PUBLIC_KEY, PUBLIC_KEY_BYTES, RECORD_BYTES,
-    SHARED, SUBJECT, VALUE, VALUE_END,
+    BEHIND_SUBJECT, BY_PIN, BY_PUK, CHIP_PUBLIC_KEY, DIGEST, DIGEST_BYTES, DONE, GROUPING, HOME,
+    ID_BYTES, KEY_END, LAST_PROTECTION, MAC_BYTES, OWN, PARENT, PATH_SET, PIN_BYTES, PUBLIC_KEY,
+    PUBLIC_KEY_BYTES, RECORD_BYTES, Refusal, SHARED, SUBJECT, VALUE, VALUE_END,
 };
-use store_edits::{copy_of, put};
+use store_draft::Draft;
+use store_edits::{Rewrite, rewrite_chosen};
 use store_records::{
-    bears, byte_at, four_at, is_child, is_kind, is_that, part_of, record_at, string_at, text_at,
-    that,
+    Choice, bears, byte_at, four_at, is_child, is_kind, part_of, records, string_at, text_at, that,
 };
 use store_session::Session;
 
@@ -50,30 +49,40 @@ const USES_12: u8 = 1;
 // ---- 10: pol is the record of the policy that the call names, v the PIN
 
 // What is asked first: the form, the algorithms, and the names against the store.
-fn key_names(s: &[u8], pol: &[u8], q: KeyFields, c: &[u8], chip: &[u8]) -> u8
+#[tactic(auto, unfolding(method_acts::specs::Rungs::status))]
+fn key_names(s: &[u8], pol: &[u8], q: KeyFields, c: &[u8], chip: &[u8]) -> Result<(), Refusal>
     requires { q ≡ key_fields c.now }
-    ensures { result ≡ status (key_names c.now chip.now (key_in c.now chip.now) pol.now (block (subject c.now) (records s.now))) }
+    ensures { number_of result ≡ status (key_names c.now chip.now (key_in c.now chip.now) pol.now (block (subject c.now) (records s.now))) }
 {
     let entry = string_at(c, q.entry);
     let key = string_at(c, q.algorithm);
-    let n1 = fault(0, !call_form::is_key(q, c, chip), NO_FORM);
-    let n2 = fault(n1, !call_fields::is_entry_algorithm(entry), NO_ALGORITHM);
-    let n3 = fault(n2, !call_fields::is_key_algorithm(key), NO_ALGORITHM);
-    let n4 = fault(n3, !(q.endorsed == 0), NO_ALGORITHM);
+    refuse_if(!call_form::is_key(q, c, chip), Refusal::NoForm)?;
+    refuse_if(
+        !call_fields::is_entry_algorithm(entry),
+        Refusal::NoAlgorithm,
+    )?;
+    refuse_if(!call_fields::is_key_algorithm(key), Refusal::NoAlgorithm)?;
+    refuse_if(!(q.endorsed == 0), Refusal::NoAlgorithm)?;
     let taken = is_taken(s, four_at(c, SUBJECT), string_at(c, BEHIND_SUBJECT));
-    let n5 = fault(n4, taken, BREAKS_RULE);
-    fault(n5, is_missing(pol, paper::POLICY, q.policy), BREAKS_RULE)
+    refuse_if(taken, Refusal::BreaksRule)?;
+    refuse_if(
+        is_missing(pol, paper::POLICY, q.policy),
+        Refusal::BreaksRule,
+    )?;
+    Ok(())
 }
 
 // The call's numbers by themselves.
-fn key_numbers(q: KeyFields, c: &[u8]) -> u8
-    ensures { result ≡ status (key_numbers (key_of q c.now [])) }
+#[tactic(auto, unfolding(method_acts::specs::Rungs::status))]
+fn key_numbers(q: KeyFields, c: &[u8]) -> Result<(), Refusal>
+    ensures { number_of result ≡ status (key_numbers (key_of q c.now [])) }
 {
     let parameters = string_at(c, q.parameters);
-    let n1 = fault(0, !(q.biometric == 0), BREAKS_RULE);
-    let n2 = fault(n1, !(q.export <= LAST_PROTECTION), BREAKS_RULE);
-    let n3 = fault(n2, !(q.deletion <= LAST_PROTECTION), BREAKS_RULE);
-    fault(n3, !(parameters.len() == 0), BREAKS_RULE)
+    refuse_if(!(q.biometric == 0), Refusal::BreaksRule)?;
+    refuse_if(!(q.export <= LAST_PROTECTION), Refusal::BreaksRule)?;
+    refuse_if(!(q.deletion <= LAST_PROTECTION), Refusal::BreaksRule)?;
+    refuse_if(!(parameters.len() == 0), Refusal::BreaksRule)?;
+    Ok(())
 }
 
 // A PIN or PINValue given where none belongs, or none where the issuer sets one.
@@ -111,15 +120,7 @@ fn is_unlike(x: &[u8], t: u32, pol: &[u8], v: &[u8]) -> bool
 fn has_unlike(s: &[u8], t: u32, pol: &[u8], v: &[u8]) -> bool
     ensures { result ≡ test (some (block t (records s.now)) (other_pin pol.now v.now)) }
 {
-    let n = s.len() / RECORD_BYTES;
-    let mut i: usize = 0;
-    while i < n {
-        if is_unlike(record_at(s, i), t, pol, v) {
-            return true;
-        }
-        i += 1;
-    }
-    false
+    records(s).any(|r| is_unlike(r, t, pol, v))
 }
 
 fn is_not_shared(s: &[u8], t: u32, pol: &[u8], v: &[u8]) -> bool
@@ -139,45 +140,52 @@ fn is_unprotected(pol: &[u8], q: KeyFields) -> bool
 }
 
 // The PIN against its policy and the policy's other keys, the protection, and the limit.
-fn key_pin(s: &[u8], x: Session, pol: &[u8], v: &[u8], q: KeyFields, c: &[u8], chip: &[u8]) -> u8
-    ensures { result ≡ status (key_pin (key_of q c.now chip.now) v.now pol.now (value_of x) (block (subject c.now) (records s.now))) }
+#[tactic(auto, unfolding(method_acts::specs::Rungs::status))]
+fn key_pin(
+    s: &[u8],
+    x: Session,
+    pol: &[u8],
+    v: &[u8],
+    q: KeyFields,
+    c: &[u8],
+    chip: &[u8],
+) -> Result<(), Refusal>
+    ensures { number_of result ≡ status (key_pin (key_of q c.now chip.now) v.now pol.now (value_of x) (block (subject c.now) (records s.now))) }
 {
     let broken = !(q.policy == 0) & !call_text::pin_fits(pol, v);
-    let n1 = fault(0, is_misplaced(pol, q, c, chip), BREAKS_RULE);
-    let n2 = fault(n1, broken, BREAKS_RULE);
-    let n3 = fault(
-        n2,
+    refuse_if(is_misplaced(pol, q, c, chip), Refusal::BreaksRule)?;
+    refuse_if(broken, Refusal::BreaksRule)?;
+    refuse_if(
         is_not_shared(s, four_at(c, SUBJECT), pol, v),
-        BREAKS_RULE,
-    );
-    let n4 = fault(n3, is_unprotected(pol, q), BREAKS_RULE);
-    fault(n4, passes_limit(x, USES_10), BREAKS_RULE)
+        Refusal::BreaksRule,
+    )?;
+    refuse_if(is_unprotected(pol, q), Refusal::BreaksRule)?;
+    refuse_if(passes_limit(x, USES_10), Refusal::BreaksRule)?;
+    Ok(())
 }
 
-fn key_seal(x: Session, pol: &[u8], q: KeyFields, c: &[u8]) -> u8
-    ensures { result ≡ status (key_seal (key_of q c.now []) pol.now (value_of x)) }
+fn key_seal(x: Session, pol: &[u8], q: KeyFields, c: &[u8]) -> Result<(), Refusal>
+    ensures { number_of result ≡ status (key_seal (key_of q c.now []) pol.now (value_of x)) }
 {
-    let key = x.key;
-    let made = call_mac::of_key(&key, x.counter, q, pol, c);
+    let made = MacKey::new(&x.key, x.counter).of_key(q, pol, c);
     seal(x, part_of(c, q.mac, MAC_BYTES), &made)
 }
 
-fn status_key(s: &[u8], x: Session, pol: &[u8], v: &[u8], q: KeyFields, c: &[u8], chip: &[u8]) -> u8
+fn status_key(
+    s: &[u8],
+    x: Session,
+    pol: &[u8],
+    v: &[u8],
+    q: KeyFields,
+    c: &[u8],
+    chip: &[u8],
+) -> Result<(), Refusal>
     requires { q ≡ key_fields c.now }
-    ensures { result ≡ status (key_faults c.now chip.now (key_in c.now chip.now) v.now pol.now (value_of x) (block (subject c.now) (records s.now))) }
+    ensures { number_of result ≡ status (key_faults c.now chip.now (key_in c.now chip.now) v.now pol.now (value_of x) (block (subject c.now) (records s.now))) }
 {
-    let n = key_names(s, pol, q, c, chip);
-    if n != 0 {
-        return n;
-    }
-    let m = key_numbers(q, c);
-    if m != 0 {
-        return m;
-    }
-    let p = key_pin(s, x, pol, v, q, c, chip);
-    if p != 0 {
-        return p;
-    }
+    key_names(s, pol, q, c, chip)?;
+    key_numbers(q, c)?;
+    key_pin(s, x, pol, v, q, c, chip)?;
     key_seal(x, pol, q, c)
 }
 
@@ -185,18 +193,17 @@ fn key_record(x: Session, v: &[u8], q: KeyFields, c: &[u8], chip: &[u8]) -> [u8;
     ensures { result ≡ laid (key_record (subject c.now) (key_of q c.now chip.now) v.now (value_of x)) }
 {
     let t = four_at(c, SUBJECT);
-    let d = store_draft::head(paper::KEY, 0, 0, q.deletion, fresh(t, x), t, q.policy);
-    let named = store_draft::padded(d, ID_BYTES, string_at(c, BEHIND_SUBJECT));
-    let pinned = store_draft::zeros(store_draft::padded(named, PIN_BYTES, v), BEHIND_VALUE);
-    let keyed = store_draft::zeros(
-        store_draft::padded(pinned, PUBLIC_KEY_BYTES, string_at(chip, CHIP_PUBLIC_KEY)),
-        NO_DIGEST,
-    );
-    let used = store_draft::byte(
-        store_draft::byte(store_draft::byte(keyed, q.caching), q.export),
-        q.usage,
-    );
-    store_draft::finish(store_draft::zeros(used, BEHIND))
+    Draft::head(paper::KEY, 0, 0, q.deletion, fresh(t, x), t, q.policy)
+        .padded(ID_BYTES, string_at(c, BEHIND_SUBJECT))
+        .padded(PIN_BYTES, v)
+        .zeros(BEHIND_VALUE)
+        .padded(PUBLIC_KEY_BYTES, string_at(chip, CHIP_PUBLIC_KEY))
+        .zeros(NO_DIGEST)
+        .byte(q.caching)
+        .byte(q.export)
+        .byte(q.usage)
+        .zeros(BEHIND)
+        .finish()
 }
 
 // The call done. The PIN is a part of the call or of the chip bytes, so both are lent for one lifetime. A PIN longer than 16 bytes, which no
@@ -208,12 +215,10 @@ pub fn make_key<'a>(s: &mut [u8], x: Session, c: &'a [u8], chip: &'a [u8]) -> Re
     let t = four_at(c, SUBJECT);
     let pol = that(s, paper::POLICY, q.policy, t);
     let v = call_fields::pin(q, c, chip, pol);
-    let n = status_key(s, x, pol, v, q, c, chip);
-    if n != 0 {
-        return refuse(s, t, n);
+    if let Err(e) = status_key(s, x, pol, v, q, c, chip) {
+        return reject(s, t, e);
     }
-    let key = x.key;
-    let a = call_mac::attested_key(&key, x.counter, c, chip);
+    let a = MacKey::new(&x.key, x.counter).attested_key(c, chip);
     let r = key_record(x, v, q, c, chip);
     method_acts::place(s, t, USES_10, fresh(t, x), a, &r)
 }
@@ -221,77 +226,58 @@ pub fn make_key<'a>(s: &mut [u8], x: Session, c: &'a [u8], chip: &'a [u8]) -> Re
 // ---- 12: k is the record of the key that the call names
 
 // All that is asked before the MAC is made, and the MAC.
-fn path_rules(x: Session, k: &[u8], q: PathFields, c: &[u8], chip: &[u8]) -> u8
+#[tactic(auto, unfolding(method_acts::specs::Rungs::status))]
+fn path_rules(x: Session, k: &[u8], q: PathFields, c: &[u8], chip: &[u8]) -> Result<(), Refusal>
     requires { q ≡ path_fields c.now }
-    ensures { result ≡ status (path_rules c.now chip.now k.now (value_of x)) }
+    ensures { number_of result ≡ status (path_rules c.now chip.now k.now (value_of x)) }
 {
-    let n1 = fault(0, !call_form::is_path(q, c, chip), NO_FORM);
-    let n2 = fault(n1, !is_kind(k, paper::KEY), NO_KEY);
-    let n3 = fault(n2, byte_at(k, PATH_SET) == 1, BREAKS_RULE);
-    fault(n3, passes_limit(x, USES_12), BREAKS_RULE)
+    refuse_if(!call_form::is_path(q, c, chip), Refusal::NoForm)?;
+    refuse_if(!is_kind(k, paper::KEY), Refusal::NoKey)?;
+    refuse_if(byte_at(k, PATH_SET) == 1, Refusal::BreaksRule)?;
+    refuse_if(passes_limit(x, USES_12), Refusal::BreaksRule)?;
+    Ok(())
 }
 
-fn path_seal(x: Session, k: &[u8], q: PathFields, c: &[u8]) -> u8
+#[tactic(auto, unfolding(method_acts::specs::Rungs::status))]
+fn path_seal(x: Session, k: &[u8], q: PathFields, c: &[u8]) -> Result<(), Refusal>
     requires { q ≡ path_fields c.now }
-    ensures { result ≡ status (path_seal (path_in c.now) k.now (value_of x)) }
+    ensures { number_of result ≡ status (path_seal (path_in c.now) k.now (value_of x)) }
 {
-    let key = x.key;
-    let made = call_mac::of_path(&key, x.counter, k, c);
+    let made = MacKey::new(&x.key, x.counter).of_path(k, c);
     let given = part_of(c, q.mac, MAC_BYTES);
-    fault(0, !hmac::is_same(given, &made), MAC_DIFFERS)
+    refuse_if(!hmac::is_same(given, &made), Refusal::MacDiffers)?;
+    Ok(())
 }
 
-fn status_path(x: Session, k: &[u8], q: PathFields, c: &[u8], chip: &[u8]) -> u8
+fn status_path(x: Session, k: &[u8], q: PathFields, c: &[u8], chip: &[u8]) -> Result<(), Refusal>
     requires { q ≡ path_fields c.now }
-    ensures { result ≡ status (path_faults c.now chip.now (path_in c.now) k.now (value_of x)) }
+    ensures { number_of result ≡ status (path_faults c.now chip.now (path_in c.now) k.now (value_of x)) }
 {
-    let n = path_rules(x, k, q, c, chip);
-    if n != 0 {
-        return n;
-    }
+    path_rules(x, k, q, c, chip)?;
     path_seal(x, k, q, c)
 }
 
-// The digest written over its bytes.
-fn with_digest(r: [u8; 256], d: [u8; 32]) -> [u8; 256]
-    ensures { result ≡ over 179 d r }
-{
-    let mut b = r;
-    let mut i: usize = 0;
-    while i < DIGEST_BYTES {
-        b[DIGEST + i] = d[i];
-        i += 1;
-    }
-    b
+// A key gets a path whose end-entity certificate has this digest.
+#[derive(Drop)]
+struct Certified {
+    digest: [u8; 32],
 }
 
-fn certified(r: [u8; 256], d: [u8; 32]) -> [u8; 256]
-    ensures { result ≡ with_path d r }
-{
-    let mut b = with_digest(r, d);
-    b[PATH_SET] = 1;
-    b
-}
+impl Rewrite for Certified {
+    ghost makes = { λ w. with_path w.digest };
 
-fn certify_at(s: &mut [u8], i: usize, k: u32, t: u32, d: [u8; 32])
-    ensures { Becomes (set (records s.old) i (only (is 4 k t) (with_path d) (get_or (records s.old) i []))) s.old s.new }
-{
-    if is_that(record_at(s, i), paper::KEY, k, t) {
-        let r = certified(copy_of(s, i), d);
-        put(s, i, &r);
+    fn rewrite(&self, r: &mut [u8; 256]) {
+        r[DIGEST..DIGEST + DIGEST_BYTES].copy_from_slice(&self.digest);
+        r[PATH_SET] = 1;
     }
 }
 
-// The key k of the session t has a path whose end-entity certificate has the digest d.
+// The key k of the session t gets it.
 fn certify(s: &mut [u8], k: u32, t: u32, d: [u8; 32])
     ensures { Becomes (map (only (is 4 k t) (with_path d)) (records s.old)) s.old s.new }
 {
-    let n = s.len() / RECORD_BYTES;
-    let mut i: usize = 0;
-    while i < n {
-        certify_at(s, i, k, t, d);
-        i += 1;
-    }
+    let key = Choice::That(paper::KEY, k, t);
+    rewrite_chosen(s, key, &Certified { digest: d });
 }
 
 pub fn set_path(s: &mut [u8], x: Session, c: &[u8], chip: &[u8]) -> Reply
@@ -299,9 +285,8 @@ pub fn set_path(s: &mut [u8], x: Session, c: &[u8], chip: &[u8]) -> Reply
 {
     let q = call_fields::path_fields(c);
     let t = four_at(c, SUBJECT);
-    let n = status_path(x, that(s, paper::KEY, q.key, t), q, c, chip);
-    if n != 0 {
-        return refuse(s, t, n);
+    if let Err(e) = status_path(x, that(s, paper::KEY, q.key, t), q, c, chip) {
+        return reject(s, t, e);
     }
     let d = call_fields::first_digest(c);
     method_acts::advance(s, t, 0, USES_12);

@@ -3,7 +3,7 @@ use mathlib.Core.Path.{◌≡◌}
 use mathlib.Core.List.{List}
 use Prim.Native.Nat.{ℕ}
 use native.Mathlib.Omega.{arith}
-use lib.ListN.{length, length-append, length-replicate}
+use lib.ListN.{length-append, length-replicate}
 use Rattle.paper.specs.Form.{Rec, Fact}
 use Rattle.paper.specs.Records.{SessionValue}
 use Rattle.paper.specs.Calls.{puk_in, puk_form, policy_in, policy_form}

@@ -20,8 +20,8 @@ twice true false x = refl
 twice false true x = refl
 twice false false x = refl
 
-pub held-block : (t k : ℕ) (rs : List Rec) → test (some rs (held t k)) ≡ test (some (block t rs) (held t k))
-held-block t k rs =
+pub held_block : (t k : ℕ) (rs : List Rec) → test (some rs (held t k)) ≡ test (some (block t rs) (held t k))
+held_block t k rs =
     some_same (held t k) (λ r. bears t r and held t k r) rs
     (λ x. twice (eqb (kind x) PENDING) (eqb (session x) t) (eqb (is_stale x) 0 && eqb (parent x) k))
     ∙ some_block t (held t k) rs

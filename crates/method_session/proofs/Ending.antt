@@ -1,27 +1,27 @@
 -- Children in a session's own records are found among all; and what methods 3 and 5 come to, by their status.
 use mathlib.Core.Path.{◌≡◌, refl, sym, ap, subst, ◌∙◌}
-use mathlib.Core.Bool.{Bool, true, false, not, cond, ◌&&◌, ◌||◌, or-false}
+use mathlib.Core.Bool.{Bool, true, false, not, ◌&&◌, ◌||◌, or-false}
 use mathlib.Core.List.{List, map}
-use mathlib.Core.Option.{none}
 use Prim.Native.Nat.{ℕ}
 use lib.Dec.{eqb}
 use borrow.Author.Tests.{ne_eqb}
-use Rattle.paper.specs.Form.{Rec, ◌equals◌, ◌and◌, test, some, exists, only}
-use Rattle.paper.specs.Records.{SessionValue, records, kind, PUK, POLICY, KEY, own, session, parent, block, bears, zeros}
+use Rattle.paper.specs.Form.{Rec, ◌equals◌, ◌and◌, test, some, exists}
+use Rattle.paper.specs.Records.{SessionValue, records, kind, PUK, POLICY, KEY, own, session, parent, block}
 use Rattle.paper.specs.Sound.{child, childless}
 use Rattle.paper.specs.Calls.{subject, close_in, abort_form}
 use Rattle.paper.specs.Mac.{attestation, close_attested}
 use Rattle.paper.specs.Closing.{closing}
-use Rattle.paper.specs.Act.{refuse, inside, no_attestation, perform, wiped}
+use Rattle.paper.specs.Act.{refuse, perform, wiped}
 use Rattle.paper.specs.Act as act
-use Rattle.paper.specs.Sessions.{abort_faults, abort_session, close_by}
+use Rattle.paper.specs.Sessions.{abort_session, close_by}
 use Rattle.store_records.specs.View.{Becomes}
 use Rattle.store_records.specs.Choices.{chosen}
 use Rattle.store_records.specs.declared.Choice.TheVariants.{Child}
 use Rattle.method_acts.proofs.Blocks.{some_block}
-use Rattle.method_acts.specs.Rungs.{status, or_else, climb}
-use Rattle.method_acts.specs.declared.Reply.{Reply}
-use Rattle.method_acts.specs.Answers.{Answers, bare_reply}
+use Rattle.paper.specs.Refusal.{number}
+use Rattle.paper.specs.declared.Refusal.{Refusal}
+use Rattle.method_acts.specs.Rungs.{status}
+use Rattle.method_acts.specs.Answers.{Answers}
 use Rattle.method_acts.proofs.Climbs.{told_not, told-done}
 use Rattle.method_session.specs.Ends.{faults3, ended, aborted}
 
@@ -53,32 +53,27 @@ module _ (t : ℕ) (rs : List Rec) (y : Rec) (e : session y ≡ t) where
   pub childless_policy : kind y ≡ POLICY → not (test (some rs (chosen (Child KEY (own y) t)))) ≡ test (childless (block t rs) y)
   childless_policy k = sym (childless-at t rs y e ∙ rw k)
 
-  pub childless_other : (kind y ≡ PUK → ⊥) → (kind y ≡ POLICY → ⊥) → false ≡ test (childless (block t rs) y)
-  childless_other p q = sym (childless-at t rs y e ∙ rw (ne_eqb (kind y) PUK p, ne_eqb (kind y) POLICY q))
-
-module _ (x : SessionValue) (c chip : List ℕ) (rs : List Rec) {n : ℕ} (told : n ≡ status (faults3 x c chip rs)) where
-  pub ended_not : (n ≡ 0 → ⊥) → ended x c chip rs ≡ perform (subject c) (refuse n) rs
+module _ (x : SessionValue) (c chip : List ℕ) (rs : List Rec) where
+  pub ended_not : (e : Refusal) → number e ≡ status (faults3 x c chip rs) → ended x c chip rs ≡ perform (subject c) (refuse (number e)) rs
   unfolding close_by
-  ended_not h = rw (told_not (faults3 x c chip rs) refuse (act.close (attestation x (close_attested (close_in c)))) refl told h)
+  ended_not e f = rw (told_not (faults3 x c chip rs) refuse (act.close (attestation x (close_attested (close_in c)))) refl e f)
 
-  pub ended-done : n ≡ 0
+  pub ended-done : 0 ≡ status (faults3 x c chip rs)
       → ended x c chip rs ≡ record { status = 0; handle = 0; attestation = attestation x (close_attested (close_in c)); store = map (closing (subject c) rs) rs }
   unfolding close_by perform
-  ended-done z = rw (told-done (faults3 x c chip rs) refuse (act.close (attestation x (close_attested (close_in c)))) refl told z)
+  ended-done z = rw (told-done (faults3 x c chip rs) refuse (act.close (attestation x (close_attested (close_in c)))) refl z)
 
-pub closed : (x : SessionValue) (c chip : List ℕ) {s u : List ℕ} {n : ℕ} (t : ℕ) (a : List ℕ) → n ≡ status (faults3 x c chip (records s)) → n ≡ 0 → t ≡ subject c
+pub closed : (x : SessionValue) (c chip : List ℕ) {s u : List ℕ} (t : ℕ) (a : List ℕ) → 0 ≡ status (faults3 x c chip (records s)) → t ≡ subject c
     → a ≡ attestation x (close_attested (close_in c)) → Becomes (map (closing t (records s)) (records s)) s u
     → Answers (ended x c chip (records s)) (record { status = 0; handle = 0; attestation = a }) s u
-closed x c chip {s} t a e z f h b = rw (ended-done x c chip (records s) e z, ← f, ← h) (record { reply = refl; store = b })
+closed x c chip {s} t a z f h b = rw (ended-done x c chip (records s) z, ← f, ← h) (record { reply = refl; store = b })
 
-aborted-is : (c chip : List ℕ) (rs : List Rec) → aborted c chip rs ≡ wiped (subject c) (climb 0 (abort_faults c chip)) rs
-unfolding abort_session perform or_else
-aborted-is c chip rs = go (test (abort_form c chip))
-  where
-    go : (b : Bool) → perform (subject c) (cond (not b) (refuse 16) (inside 0 no_attestation (λ r. zeros) none)) rs ≡ wiped (subject c) (cond (not b) 16 0) rs
-    go true = refl
-    go false = refl
+-- method 5 frees its session, and tells whether the call has its form
+module _ (c chip : List ℕ) (rs : List Rec) where
+  pub aborted_not : test (abort_form c chip) ≡ false → aborted c chip rs ≡ perform (subject c) (refuse 16) rs
+  unfolding abort_session
+  aborted_not e = rw e
 
-pub gone : (c chip : List ℕ) {s u : List ℕ} {n t : ℕ} {r : Reply} → n ≡ climb 0 (abort_faults c chip) → t ≡ subject c → r ≡ bare_reply n
-    → Becomes (map (only (bears t) (λ r. zeros)) (records s)) s u → Answers (aborted c chip (records s)) r s u
-gone c chip {s} e f g b = rw (aborted-is c chip (records s), ← e, ← f) (record { reply = g; store = b })
+  pub aborted-done : test (abort_form c chip) ≡ true → aborted c chip rs ≡ wiped (subject c) 0 rs
+  unfolding abort_session perform
+  aborted-done e = rw e

@@ -1,5 +1,5 @@
 -- What status 0 of method 2 tells of the call: the number fits and the record has 256 bytes. And the paper's outcome by the status.
-use mathlib.Core.Path.{◌≡◌, refl, subst, ◌∙◌}
+use mathlib.Core.Path.{◌≡◌, refl, subst}
 use mathlib.Core.List.{List, map}
 use Prim.Native.Nat.{ℕ, ◌+◌, ◌≤◌}
 use native.Mathlib.Omega.{arith}
@@ -20,9 +20,11 @@ use Rattle.store_records.proofs.Views.{after}
 use Rattle.store_edits.proofs.Puts.{unchanged}
 use Rattle.store_draft.specs.Drafts.{laid}
 use Rattle.store_draft.proofs.Laying.{laid_whole}
+use Rattle.paper.specs.Refusal.{number}
+use Rattle.paper.specs.declared.Refusal.{Refusal}
 use Rattle.method_acts.specs.Rungs.{status}
 use Rattle.method_acts.specs.Answers.{Answers, bare_reply}
-use Rattle.method_acts.proofs.Climbs.{cleared, settle-done, settle_not}
+use Rattle.method_acts.proofs.Climbs.{cleared, settle-done, told_not}
 use Rattle.method_session.specs.Births.{faults2}
 
 module _ (c chip : List ℕ) where
@@ -65,14 +67,13 @@ module _ (c chip : List ℕ) where
       unfolding create_session
       create_done = settle-done (faults2 c chip rs) (λ n. plain n rs) _ refl z
 
-    pub create_not : (status (faults2 c chip rs) ≡ 0 → ⊥) → create_session c chip rs ≡ plain (status (faults2 c chip rs)) rs
+    pub create_not : (e : Refusal) → number e ≡ status (faults2 c chip rs) → create_session c chip rs ≡ plain (number e) rs
     unfolding create_session
-    create_not h = settle_not (faults2 c chip rs) (λ n. plain n rs) _ refl h
+    create_not e f = told_not (faults2 c chip rs) (λ n. plain n rs) _ refl e f
 
 -- refused: nothing changes
-pub refused : (c chip s : List ℕ) {n : ℕ} → n ≡ status (faults2 c chip (records s)) → (n ≡ 0 → ⊥) → Answers (create_session c chip (records s)) (bare_reply n) s s
-refused c chip s e h =
-    rw (create_not c chip (records s) (λ z. h (e ∙ z)), e) (record { reply = refl; store = unchanged s })
+pub refused : (c chip s : List ℕ) (e : Refusal) → number e ≡ status (faults2 c chip (records s)) → Answers (create_session c chip (records s)) (bare_reply (number e)) s s
+refused c chip s e f = rw (create_not c chip (records s) e f) (record { reply = refl; store = unchanged s })
 
 -- counted, and then the record put in
 pub created : (c chip : List ℕ) {s t u : List ℕ} (h : ℕ) (r : Rec) → status (faults2 c chip (records s)) ≡ 0 → h ≡ handle (next_session (counter (records s))) 0

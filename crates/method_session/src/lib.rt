@@ -3,9 +3,9 @@
 
 #![tactic(auto)]
 
-ghost use Rattle.std.specs.Prelude.{◌≡◌, [], map, ◌+◌, ◌≤◌, get_or, set};
+ghost use Rattle.std.specs.Prelude.{◌≡◌, map, ◌+◌, ◌≤◌};
 ghost use Rattle.paper.specs.Bytes.{enc4, over, byte};
-ghost use Rattle.paper.specs.Form.{test, some, ◌equals◌, ◌and◌};
+ghost use Rattle.paper.specs.Form.{test, ◌equals◌, ◌and◌};
 ghost use Rattle.paper.specs.Records.{records, handle, next_session, kind as kind_of, bears as bears_it, block};
 ghost use Rattle.paper.specs.Calls.{subject, create_in, close_in};
 ghost use Rattle.paper.specs.Sessions.{counter, client_taken, given as given_if, session_record, counted, create_session, unfit, close_rules, close_seal};
@@ -13,24 +13,25 @@ ghost use Rattle.store_records.specs.View.{Becomes};
 ghost use Rattle.store_draft.specs.Drafts.{laid};
 ghost use Rattle.store_session.specs.Decoded.{value_of};
 ghost use Rattle.call_fields.specs.Fields.{create_fields, close_fields};
-ghost use Rattle.method_acts.specs.Rungs.{status};
+ghost use Rattle.method_acts.specs.Rungs.{number_of, status};
 ghost use Rattle.method_acts.specs.Answers.{Answers};
 ghost use Rattle.method_session.specs.Births.{faults2, of_client};
 ghost use Rattle.paper.specs.Sound.{childless};
 ghost use Rattle.method_acts.specs.Range.{in_range};
-ghost use Rattle.method_session.specs.Ends.{faults3, flawed, flaw_in, ended, aborted};
+ghost use Rattle.method_session.specs.Ends.{faults3, ended, aborted};
 
 use call_fields::{CloseFields, CreateFields};
-use method_acts::{Reply, bare, fault, passes_limit, refuse};
+use call_mac::MacKey;
+use method_acts::{Reply, bare, passes_limit, refuse_if, refused, reject};
 use paper::{
-    ALGORITHM, BREAKS_RULE, CHIP_CLIENT_ID, CLIENT_ID, DONE, HANDLE_STEP, ID_BYTES, KIND,
-    MAC_BYTES, MAC_DIFFERS, MOST_RECORDS, MOST_SESSIONS, NEXT_SESSION, NO_ALGORITHM, NO_FORM,
-    NO_ROOM, NOT_FIT, OPEN, OWN, PATH_SET, RECORD_BYTES, SESSION_END, SESSION_KEY_BYTES, STALE,
-    SUBJECT, TIMES_BYTES, UNSOUND,
+    ALGORITHM, CHIP_CLIENT_ID, CLIENT_ID, DONE, HANDLE_STEP, ID_BYTES, KIND, MAC_BYTES,
+    MOST_RECORDS, MOST_SESSIONS, NEXT_SESSION, OPEN, OWN, PATH_SET, RECORD_BYTES, Refusal,
+    SESSION_END, SESSION_KEY_BYTES, STALE, SUBJECT, TIMES_BYTES,
 };
-use store_edits::{copy_of, insert, put};
+use store_draft::Draft;
+use store_edits::{Rewrite, insert, rewrite_chosen};
 use store_records::{
-    Choice, bears, byte_at, first, four_at, has, is_kind, part_of, record_at, string_at, text_at,
+    Choice, bears, byte_at, first, four_at, has, is_kind, part_of, records, string_at, text_at,
 };
 use store_session::Session;
 
@@ -60,15 +61,7 @@ fn is_client(r: &[u8], name: &[u8]) -> bool
 fn is_client_taken(s: &[u8], name: &[u8]) -> bool
     ensures { result ≡ test (client_taken name.now (records s.now)) }
 {
-    let n = s.len() / RECORD_BYTES;
-    let mut i: usize = 0;
-    while i < n {
-        if is_client(record_at(s, i), name) {
-            return true;
-        }
-        i += 1;
-    }
-    false
+    records(s).any(|r| is_client(r, name))
 }
 
 // The next session number.
@@ -79,32 +72,30 @@ fn next_session(s: &[u8]) -> u32
 }
 
 // n is the next session number.
-fn create_status(s: &[u8], n: u32, q: CreateFields, c: &[u8], chip: &[u8]) -> u8
+#[tactic(auto, unfolding(method_acts::specs::Rungs::status))]
+fn create_status(s: &[u8], n: u32, q: CreateFields, c: &[u8], chip: &[u8]) -> Result<(), Refusal>
     requires { (n ≡ next_session (counter (records s.now))) × (q ≡ create_fields c.now) }
-    ensures { result ≡ status (faults2 c.now chip.now (records s.now)) }
+    ensures { number_of result ≡ status (faults2 c.now chip.now (records s.now)) }
 {
     let algorithm = string_at(c, ALGORITHM);
     let client = string_at(chip, CHIP_CLIENT_ID);
-    let n1 = fault(0, !call_form::is_create(q, c, chip), NO_FORM);
-    let n2 = fault(
-        n1,
+    refuse_if(!call_form::is_create(q, c, chip), Refusal::NoForm)?;
+    refuse_if(
         !call_fields::is_session_algorithm(algorithm),
-        NO_ALGORITHM,
-    );
-    let n3 = fault(n2, q.limit == 0, BREAKS_RULE);
-    let n4 = fault(n3, is_client_taken(s, client), BREAKS_RULE);
-    let n5 = fault(n4, !(n <= MOST_SESSIONS), NO_ROOM);
-    fault(n5, !has(s, Choice::Free), NO_ROOM)
+        Refusal::NoAlgorithm,
+    )?;
+    refuse_if(q.limit == 0, Refusal::BreaksRule)?;
+    refuse_if(is_client_taken(s, client), Refusal::BreaksRule)?;
+    refuse_if(!(n <= MOST_SESSIONS), Refusal::NoRoom)?;
+    refuse_if(!has(s, Choice::Free), Refusal::NoRoom)?;
+    Ok(())
 }
 
 // 1 if a KeyManagementKey was given.
 fn given(v: &[u8]) -> u8
     ensures { result ≡ given_if v.now }
 {
-    if v.len() == 0 {
-        return 0;
-    }
-    1
+    u8::from(!v.is_empty())
 }
 
 // The record of the session h; where the call has its form it is 256 bytes long as it stands.
@@ -112,34 +103,29 @@ fn session_record(h: u32, q: CreateFields, c: &[u8], chip: &[u8]) -> [u8; 256]
     requires { q ≡ create_fields c.now }
     ensures { result ≡ laid (session_record h (create_in c.now chip.now)) }
 {
-    let d = store_draft::head(paper::SESSION, OPEN, 0, FIRST_OBJECT, h as u64, h, 0);
-    let server = store_draft::padded(d, ID_BYTES, string_at(c, q.server));
-    let client = store_draft::padded(server, ID_BYTES, string_at(chip, CHIP_CLIENT_ID));
-    let key = store_draft::bytes(client, part_of(chip, 0, SESSION_KEY_BYTES));
-    let limited = store_draft::two(store_draft::two(key, 0), q.limit);
-    let private = store_draft::byte(limited, q.privacy);
-    let managed = store_draft::byte(private, given(string_at(c, q.management)));
-    let timed = store_draft::bytes(managed, part_of(c, q.times, TIMES_BYTES));
-    store_draft::finish(store_draft::zeros(timed, BEHIND))
+    Draft::head(paper::SESSION, OPEN, 0, FIRST_OBJECT, u64::from(h), h, 0)
+        .padded(ID_BYTES, string_at(c, q.server))
+        .padded(ID_BYTES, string_at(chip, CHIP_CLIENT_ID))
+        .bytes(part_of(chip, 0, SESSION_KEY_BYTES))
+        .two(0)
+        .two(q.limit)
+        .byte(q.privacy)
+        .byte(given(string_at(c, q.management)))
+        .bytes(part_of(c, q.times, TIMES_BYTES))
+        .zeros(BEHIND)
+        .finish()
 }
 
-fn one_more(mut r: [u8; 256]) -> [u8; 256]
-    ensures { result ≡ over 4 (enc4 (next_session r + 1)) r }
-{
-    let n = (four_at(&r, NEXT_SESSION) as u64) + 1;
-    r[NEXT_SESSION] = (n / 256 / 256 / 256 % 256) as u8;
-    r[NEXT_SESSION + 1] = (n / 256 / 256 % 256) as u8;
-    r[NEXT_SESSION + 2] = (n / 256 % 256) as u8;
-    r[NEXT_SESSION + 3] = (n % 256) as u8;
-    r
-}
+// The next session number becomes one more.
+#[derive(Drop)]
+struct OneMore;
 
-fn count_at(s: &mut [u8], i: usize)
-    ensures { Becomes (set (records s.old) i (counted (get_or (records s.old) i []))) s.old s.new }
-{
-    if is_kind(record_at(s, i), paper::COUNTER) {
-        let r = one_more(copy_of(s, i));
-        put(s, i, &r);
+impl Rewrite for OneMore {
+    ghost makes = { λ w r. over 4 (enc4 (next_session r + 1)) r };
+
+    fn rewrite(&self, r: &mut [u8; 256]) {
+        let n = four_at(r, NEXT_SESSION).wrapping_add(1);
+        r[NEXT_SESSION..NEXT_SESSION + 4].copy_from_slice(&n.to_be_bytes());
     }
 }
 
@@ -147,12 +133,7 @@ fn count_at(s: &mut [u8], i: usize)
 fn count(s: &mut [u8])
     ensures { Becomes (map counted (records s.old)) s.old s.new }
 {
-    let n = s.len() / RECORD_BYTES;
-    let mut i: usize = 0;
-    while i < n {
-        count_at(s, i);
-        i += 1;
-    }
+    rewrite_chosen(s, Choice::Kind(paper::COUNTER), &OneMore);
 }
 
 fn handle_of(n: u32) -> u32
@@ -167,9 +148,8 @@ pub fn create(s: &mut [u8], c: &[u8], chip: &[u8]) -> Reply
 {
     let q = call_fields::create_fields(c);
     let number = next_session(s);
-    let n = create_status(s, number, q, c, chip);
-    if n != 0 {
-        return bare(n);
+    if let Err(e) = create_status(s, number, q, c, chip) {
+        return refused(e);
     }
     let h = handle_of(number);
     let r = session_record(h, q, c, chip);
@@ -185,14 +165,6 @@ pub fn create(s: &mut [u8], c: &[u8], chip: &[u8]) -> Reply
 // ---- 3 and 5: a refused close frees the session with all its records; one that is not refused carries out what the session holds and
 // seals it, in one shot. A close in a store of more than 256 records answers 19 and changes nothing, so that its promise has no premise
 
-// What a close does not suffer: a key without path, a PUK or a policy without child, a stale pending.
-#[derive(Clone, Copy)]
-pub enum Flaw {
-    Pathless,
-    Childless,
-    Stale,
-}
-
 // Whether a record of the session t is a PUK or a policy without child in it.
 fn is_childless(s: &[u8], t: u32, r: &[u8]) -> bool
     ensures { result ≡ test (bears_it t r.now and childless (block t (records s.now)) r.now) }
@@ -200,14 +172,11 @@ fn is_childless(s: &[u8], t: u32, r: &[u8]) -> bool
     if !bears(r, t) {
         return false;
     }
-    let k = byte_at(r, KIND);
-    if k == paper::PUK {
-        return !has(s, Choice::Child(paper::POLICY, four_at(r, OWN), t));
+    match byte_at(r, KIND) {
+        paper::PUK => !has(s, Choice::Child(paper::POLICY, four_at(r, OWN), t)),
+        paper::POLICY => !has(s, Choice::Child(paper::KEY, four_at(r, OWN), t)),
+        _ => false,
     }
-    if k == paper::POLICY {
-        return !has(s, Choice::Child(paper::KEY, four_at(r, OWN), t));
-    }
-    false
 }
 
 fn is_marked(r: &[u8], t: u32, kind: u8, at: usize, mark: u8) -> bool
@@ -219,68 +188,46 @@ fn is_marked(r: &[u8], t: u32, kind: u8, at: usize, mark: u8) -> bool
     (byte_at(r, KIND) == kind) & (byte_at(r, at) == mark)
 }
 
-fn is_flawed(s: &[u8], t: u32, f: Flaw, r: &[u8]) -> bool
-    ensures { result ≡ test (flaw_in t f (records s.now) r.now) }
-{
-    match f {
-        Flaw::Pathless => is_marked(r, t, paper::KEY, PATH_SET, 0),
-        Flaw::Childless => is_childless(s, t, r),
-        Flaw::Stale => is_marked(r, t, paper::PENDING, STALE, 1),
-    }
-}
-
-// Whether the session has a record with this flaw.
-fn has_flaw(s: &[u8], t: u32, f: Flaw) -> bool
-    ensures { result ≡ test (some (block t (records s.now)) (flawed f (block t (records s.now)))) }
-{
-    let n = s.len() / RECORD_BYTES;
-    let mut i: usize = 0;
-    while i < n {
-        if is_flawed(s, t, f, record_at(s, i)) {
-            return true;
-        }
-        i += 1;
-    }
-    false
-}
-
+// What a close does not suffer: a key without path, a PUK or a policy without child, a stale pending.
 fn is_unfit(s: &[u8], t: u32) -> bool
     ensures { result ≡ test (unfit (block t (records s.now))) }
 {
-    let rest = has_flaw(s, t, Flaw::Childless) | has_flaw(s, t, Flaw::Stale);
-    has_flaw(s, t, Flaw::Pathless) | rest
+    let pathless = records(s).any(|r| is_marked(r, t, paper::KEY, PATH_SET, 0));
+    let childless = records(s).any(|r| is_childless(s, t, r));
+    let stale = records(s).any(|r| is_marked(r, t, paper::PENDING, STALE, 1));
+    pathless | (childless | stale)
 }
 
 // 3: all that is asked before the MAC is made, and the MAC, of which every byte is looked at, with what comes behind it.
-fn close_rules(x: Session, q: CloseFields, c: &[u8], chip: &[u8]) -> u8
+#[tactic(auto, unfolding(method_acts::specs::Rungs::status))]
+fn close_rules(x: Session, q: CloseFields, c: &[u8], chip: &[u8]) -> Result<(), Refusal>
     requires { q ≡ close_fields c.now }
-    ensures { result ≡ status (close_rules c.now chip.now (value_of x)) }
+    ensures { number_of result ≡ status (close_rules c.now chip.now (value_of x)) }
 {
-    let n = fault(0, !call_form::is_close(q, c, chip), NO_FORM);
-    fault(n, passes_limit(x, USES_3), BREAKS_RULE)
+    refuse_if(!call_form::is_close(q, c, chip), Refusal::NoForm)?;
+    refuse_if(passes_limit(x, USES_3), Refusal::BreaksRule)?;
+    Ok(())
 }
 
-fn close_seal(s: &[u8], x: Session, q: CloseFields, c: &[u8]) -> u8
+#[tactic(auto, unfolding(method_acts::specs::Rungs::status, paper::specs::Bytes::part))]
+fn close_seal(s: &[u8], x: Session, q: CloseFields, c: &[u8]) -> Result<(), Refusal>
     requires { q ≡ close_fields c.now }
-    ensures { result ≡ status (close_seal (close_in c.now) (value_of x) (block (subject c.now) (records s.now))) }
+    ensures { number_of result ≡ status (close_seal (close_in c.now) (value_of x) (block (subject c.now) (records s.now))) }
 {
-    let key = x.key;
     let client = x.client;
     let name = part_of(&client, 0, x.clientlength as usize);
-    let made = call_mac::of_close(&key, x.counter, name, c);
+    let made = MacKey::new(&x.key, x.counter).of_close(name, c);
     let given = part_of(c, q.mac, MAC_BYTES);
-    let n = fault(0, !hmac::is_same(given, &made), MAC_DIFFERS);
-    fault(n, is_unfit(s, four_at(c, SUBJECT)), NOT_FIT)
+    refuse_if(!hmac::is_same(given, &made), Refusal::MacDiffers)?;
+    refuse_if(is_unfit(s, four_at(c, SUBJECT)), Refusal::NotFit)?;
+    Ok(())
 }
 
-fn close_status(s: &[u8], x: Session, q: CloseFields, c: &[u8], chip: &[u8]) -> u8
+fn close_status(s: &[u8], x: Session, q: CloseFields, c: &[u8], chip: &[u8]) -> Result<(), Refusal>
     requires { q ≡ close_fields c.now }
-    ensures { result ≡ status (faults3 (value_of x) c.now chip.now (records s.now)) }
+    ensures { number_of result ≡ status (faults3 (value_of x) c.now chip.now (records s.now)) }
 {
-    let n = close_rules(x, q, c, chip);
-    if n != 0 {
-        return n;
-    }
+    close_rules(x, q, c, chip)?;
     close_seal(s, x, q, c)
 }
 
@@ -288,16 +235,14 @@ pub fn close(s: &mut [u8], x: Session, c: &[u8], chip: &[u8]) -> Reply
     ensures { Answers (in_range (ended (value_of x) c.now chip.now) (records s.old)) result s.old s.new }
 {
     if MOST_RECORDS < s.len() / RECORD_BYTES {
-        return bare(UNSOUND);
+        return refused(Refusal::Unsound);
     }
     let q = call_fields::close_fields(c);
     let t = four_at(c, SUBJECT);
-    let n = close_status(s, x, q, c, chip);
-    if n != 0 {
-        return refuse(s, t, n);
+    if let Err(e) = close_status(s, x, q, c, chip) {
+        return reject(s, t, e);
     }
-    let key = x.key;
-    let a = call_mac::attested_close(&key, x.counter, c);
+    let a = MacKey::new(&x.key, x.counter).attested_close(c);
     effect_deeds::close(s, t);
     Reply {
         status: DONE,
@@ -310,7 +255,10 @@ pub fn close(s: &mut [u8], x: Session, c: &[u8], chip: &[u8]) -> Reply
 pub fn abort(s: &mut [u8], c: &[u8], chip: &[u8]) -> Reply
     ensures { Answers (aborted c.now chip.now (records s.old)) result s.old s.new }
 {
-    let n = fault(0, !call_form::is_abort(c, chip), NO_FORM);
-    store_edits::free_session(s, four_at(c, SUBJECT));
-    bare(n)
+    let t = four_at(c, SUBJECT);
+    if !call_form::is_abort(c, chip) {
+        return reject(s, t, Refusal::NoForm);
+    }
+    store_edits::free_session(s, t);
+    bare(DONE)
 }

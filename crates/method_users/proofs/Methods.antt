@@ -19,9 +19,11 @@ use Rattle.store_records.proofs.Views.{length-records, after}
 use Rattle.effect_deeds.specs.Outcome.{pinned_by, repinned, unless_long}
 use Rattle.effect_deeds.proofs.Planning.{fitting}
 use Rattle.effect_deeds.proofs.Outcomes.{by_numbers}
+use Rattle.paper.specs.Refusal.{number}
+use Rattle.paper.specs.declared.Refusal.{Refusal}
 use Rattle.method_acts.specs.Rungs.{status}
 use Rattle.method_acts.specs.Range.{in_range}
-use Rattle.method_acts.proofs.Climbs.{settle-done, settle_not}
+use Rattle.method_acts.proofs.Climbs.{told_not, told-done}
 use Rattle.method_acts.proofs.Methods.{Method}
 use Rattle.method_users.specs.Faults.{Seen}
 use Rattle.method_users.specs.Steps.{case_of, step_by, lost_with_puk, done_by, out_of}
@@ -71,12 +73,12 @@ module _ (c chip : List ℕ) (rs : List Rec) {x h : Rec} (s : Seen c rs x h) whe
   unfolding use_key
   method100 = rw s.key (record { shape = refl; numbered = refl })
 
-module _ {o done : Out} {fs : List Fault} {rs : List Rec} (m : Method o fs rs done) {n : ℕ} (told : n ≡ status fs) where
-  pub stopped : (n ≡ 0 → ⊥) → plain n rs ≡ o
-  stopped h = ap (λ (k : ℕ). plain k rs) told ∙ sym (m.shape ∙ settle_not fs (λ k. plain k rs) done m.numbered (λ z. h (told ∙ z)))
+module _ {o done : Out} {fs : List Fault} {rs : List Rec} (m : Method o fs rs done) where
+  pub stopped : (e : Refusal) → number e ≡ status fs → plain (number e) rs ≡ o
+  stopped e f = sym (m.shape ∙ told_not fs (λ n. plain n rs) done m.numbered e f)
 
-  pub passed : n ≡ 0 → {p : Out} → p ≡ done → p ≡ o
-  passed z e = e ∙ sym (m.shape ∙ settle-done fs (λ k. plain k rs) done m.numbered (sym told ∙ z))
+  pub passed : 0 ≡ status fs → {p : Out} → p ≡ done → p ≡ o
+  passed z e = e ∙ sym (m.shape ∙ told-done fs (λ n. plain n rs) done m.numbered z)
 
 -- stores of more than 256 records, and all others
 module _ (f : List Rec → Out) (s : List ℕ) where

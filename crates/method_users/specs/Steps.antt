@@ -1,11 +1,13 @@
--- What a user's call comes to: the code's verdict for the paper's, the paper's number for each verdict, and what a deed makes of the
--- records.
-use Rattle.std.specs.Prelude.{List, map, ℕ}
+-- What a user's call comes to: the code's verdict for the paper's, what each verdict tells, and what a deed makes of the records.
+use Rattle.std.specs.Prelude.{List, map, ℕ, Result, Ok, Err}
 use Rattle.paper.specs.Form.{Rec, only}
 use Rattle.paper.specs.Records.{PUK, is}
 use Rattle.paper.specs.Pin.{Verdict as Said, locked, wrong, right, clear}
 use Rattle.paper.specs.Act.{Out, plain}
 use Rattle.paper.specs.Users.{removed, unlocked}
+use Rattle.paper.specs.declared.Refusal.{Refusal}
+use Rattle.paper.specs.declared.Refusal.TheVariants as refusal
+use Rattle.method_acts.specs.Rungs.{number_of}
 use Rattle.store_records.specs.Choices.{chosen}
 use Rattle.store_edits.specs.Edits.{edited}
 use Rattle.effect_deeds.specs.Outcome.{repinned, unless_long}
@@ -20,11 +22,11 @@ case_of locked = Locked
 case_of wrong = Wrong
 case_of right = Right
 
--- The status of a call that tried a value.
-abbrev pub number : Verdict → ℕ
-number Locked = 1
-number Wrong = 1
-number Right = 0
+-- What a call that tried a value tells.
+abbrev pub told : Verdict → Result (Unit {0}) Refusal
+told Locked = Err refusal.Wrong
+told Wrong = Err refusal.Wrong
+told Right = Ok tt
 
 -- What a verdict comes to, where a wrong value and a right one have these deeds.
 abbrev pub deed_by : Verdict → Deed → Deed → Deed
@@ -33,7 +35,7 @@ deed_by Wrong missed hit = missed
 deed_by Right missed hit = hit
 
 abbrev pub step_by : Verdict → Deed → Deed → Step
-step_by v missed hit = record { status = number v; deed = deed_by v missed hit }
+step_by v missed hit = record { status = told v; deed = deed_by v missed hit }
 
 -- The key k is removed; and the same after the count of the PUK of this handle and session became 0.
 abbrev pub lost : ℕ → List Rec → List Rec
@@ -52,4 +54,4 @@ done_by (Unlock k) w rs = unless_long rs (unlocked k rs)
 done_by (Repin g) w rs = unless_long rs (map (repinned g w rs) rs)
 
 abbrev pub out_of : Step → List ℕ → List Rec → Out
-out_of s w rs = plain s.status (done_by s.deed w rs)
+out_of s w rs = plain (number_of s.status) (done_by s.deed w rs)

@@ -13,7 +13,7 @@ ghost use Rattle.paper.specs.Pin.{verdict, pin_check, puk_check, pin_missed, puk
 ghost use Rattle.paper.specs.Users.{tried, delete_faults, unlock_faults, change_faults, use_faults, delete_key, unlock_key, change_pin, use_key};
 ghost use Rattle.store_records.specs.View.{Becomes};
 ghost use Rattle.effect_deeds.specs.Outcome.{pinned_by};
-ghost use Rattle.method_acts.specs.Rungs.{status};
+ghost use Rattle.method_acts.specs.Rungs.{number_of, status};
 ghost use Rattle.method_acts.specs.Answers.{Answers, bare_reply};
 ghost use Rattle.method_acts.specs.Range.{in_range};
 ghost use Rattle.method_users.specs.Faults.{Seen, reached, without_puk};
@@ -23,12 +23,11 @@ use call_form::{is_change, is_typed};
 use call_reader::string_in;
 use effect_deeds::{Pinned, carry, change_pin};
 use effect_plan::Keys;
-use method_acts::{both, either, fault, is_missing};
+use method_acts::{both, either, is_missing, refuse_if};
 use paper::{
-    BEHIND_SUBJECT, BREAKS_RULE, BY_PIN, CLOSED, DELETE_PROTECTION, DONE, GROUPING, HOME, KEY,
-    KEY_ERRORS, MOST_RECORDS, NEVER, NO_FORM, NO_KEY, NO_PARENT, OWN, PARENT, POLICY, PUK,
-    PUK_ERRORS, RECORD_BYTES, RETRY_LIMIT, SHARED, STATE, SUBJECT, UNSOUND, USER_MODIFIABLE, VALUE,
-    WRONG,
+    BEHIND_SUBJECT, BY_PIN, CLOSED, DELETE_PROTECTION, DONE, GROUPING, HOME, KEY, KEY_ERRORS,
+    MOST_RECORDS, NEVER, OWN, PARENT, POLICY, PUK, PUK_ERRORS, RECORD_BYTES, RETRY_LIMIT, Refusal,
+    SHARED, STATE, SUBJECT, USER_MODIFIABLE, VALUE,
 };
 use store_edits::{Edit, clear_count};
 use store_records::{Choice, byte_at, four_at, home, is_kind, policy_of, puk_of, target, text_at};
@@ -53,14 +52,14 @@ enum Deed {
     Repin(Pinned),
 }
 
-// What a call comes to.
+// What a call comes to: what is told, and what is done, which may be something although the call is refused (a wrong PIN is counted).
 #[derive(Clone, Copy)]
 struct Step {
-    status: u8,
+    status: Result<(), Refusal>,
     deed: Deed,
 }
 
-// ---- what refuses a call: the status of the first refusal of the paper's list that applies, or 0
+// ---- what refuses a call: the first refusal of the paper's list that applies
 
 // What is typed, and the new PIN behind it.
 fn typed<'a>(c: &'a [u8]) -> &'a [u8]
@@ -90,15 +89,19 @@ fn is_reached(x: &[u8], h: &[u8]) -> bool
     both(is_kind(x, KEY), byte_at(h, STATE) == CLOSED)
 }
 
+// That x and h were looked up for the call is said by each of the four (`Seen`): it relates them to the call and the store, so no type holds it.
+
 // 80
-fn delete_status(x: &[u8], h: &[u8], c: &[u8], chip: &[u8]) -> u8
-    ensures { (rs : List Rec) → Seen c.now rs x.now h.now → result ≡ status (delete_faults c.now chip.now x.now rs) }
+#[tactic(auto, unfolding(method_acts::specs::Rungs::status))]
+fn delete_status(x: &[u8], h: &[u8], c: &[u8], chip: &[u8]) -> Result<(), Refusal>
+    ensures { (rs : List Rec) → Seen c.now rs x.now h.now → number_of result ≡ status (delete_faults c.now chip.now x.now rs) }
 {
     let p = byte_at(x, DELETE_PROTECTION);
-    let n1 = fault(DONE, !is_typed(c, chip), NO_FORM);
-    let n2 = fault(n1, !is_reached(x, h), NO_KEY);
-    let n3 = fault(n2, p == NEVER, BREAKS_RULE);
-    fault(n3, both(p == 0, is_given(c)), WRONG)
+    refuse_if(!is_typed(c, chip), Refusal::NoForm)?;
+    refuse_if(!is_reached(x, h), Refusal::NoKey)?;
+    refuse_if(p == NEVER, Refusal::BreaksRule)?;
+    refuse_if(both(p == 0, is_given(c)), Refusal::Wrong)?;
+    Ok(())
 }
 
 // 82
@@ -111,39 +114,52 @@ fn is_without_puk(x: &[u8], pol: &[u8]) -> bool
     )
 }
 
-fn unlock_status(x: &[u8], h: &[u8], pol: &[u8], puk: &[u8], c: &[u8], chip: &[u8]) -> u8
-    ensures { (rs : List Rec) → Seen c.now rs x.now h.now → result ≡ status (unlock_faults c.now chip.now x.now pol.now puk.now rs) }
+#[tactic(auto, unfolding(method_acts::specs::Rungs::status))]
+fn unlock_status(
+    x: &[u8],
+    h: &[u8],
+    pol: &[u8],
+    puk: &[u8],
+    c: &[u8],
+    chip: &[u8],
+) -> Result<(), Refusal>
+    ensures { (rs : List Rec) → Seen c.now rs x.now h.now → number_of result ≡ status (unlock_faults c.now chip.now x.now pol.now puk.now rs) }
 {
     let gone = either(
         is_missing(pol, POLICY, four_at(x, PARENT)),
         is_missing(puk, PUK, four_at(pol, PARENT)),
     );
-    let n1 = fault(DONE, !is_typed(c, chip), NO_FORM);
-    let n2 = fault(n1, !is_reached(x, h), NO_KEY);
-    let n3 = fault(n2, is_without_puk(x, pol), BREAKS_RULE);
-    fault(n3, gone, NO_PARENT)
+    refuse_if(!is_typed(c, chip), Refusal::NoForm)?;
+    refuse_if(!is_reached(x, h), Refusal::NoKey)?;
+    refuse_if(is_without_puk(x, pol), Refusal::BreaksRule)?;
+    refuse_if(gone, Refusal::NoParent)?;
+    Ok(())
 }
 
 // 83
-fn change_status(x: &[u8], h: &[u8], pol: &[u8], c: &[u8], chip: &[u8]) -> u8
-    ensures { (rs : List Rec) → Seen c.now rs x.now h.now → result ≡ status (change_faults c.now chip.now x.now pol.now rs) }
+#[tactic(auto, unfolding(method_acts::specs::Rungs::status))]
+fn change_status(x: &[u8], h: &[u8], pol: &[u8], c: &[u8], chip: &[u8]) -> Result<(), Refusal>
+    ensures { (rs : List Rec) → Seen c.now rs x.now h.now → number_of result ≡ status (change_faults c.now chip.now x.now pol.now rs) }
 {
-    let n1 = fault(DONE, !is_change(c, chip), NO_FORM);
-    let n2 = fault(n1, !is_reached(x, h), NO_KEY);
-    let n3 = fault(n2, four_at(x, PARENT) == 0, BREAKS_RULE);
-    let n4 = fault(n3, byte_at(pol, USER_MODIFIABLE) == 0, BREAKS_RULE);
-    fault(n4, !call_text::pin_fits(pol, new_pin(c)), BREAKS_RULE)
+    refuse_if(!is_change(c, chip), Refusal::NoForm)?;
+    refuse_if(!is_reached(x, h), Refusal::NoKey)?;
+    refuse_if(four_at(x, PARENT) == 0, Refusal::BreaksRule)?;
+    refuse_if(byte_at(pol, USER_MODIFIABLE) == 0, Refusal::BreaksRule)?;
+    refuse_if(!call_text::pin_fits(pol, new_pin(c)), Refusal::BreaksRule)?;
+    Ok(())
 }
 
 // 100
-fn use_status(x: &[u8], h: &[u8], pol: &[u8], c: &[u8], chip: &[u8]) -> u8
-    ensures { (rs : List Rec) → Seen c.now rs x.now h.now → result ≡ status (use_faults c.now chip.now x.now pol.now rs) }
+#[tactic(auto, unfolding(method_acts::specs::Rungs::status))]
+fn use_status(x: &[u8], h: &[u8], pol: &[u8], c: &[u8], chip: &[u8]) -> Result<(), Refusal>
+    ensures { (rs : List Rec) → Seen c.now rs x.now h.now → number_of result ≡ status (use_faults c.now chip.now x.now pol.now rs) }
 {
     let p = four_at(x, PARENT);
-    let n1 = fault(DONE, !is_typed(c, chip), NO_FORM);
-    let n2 = fault(n1, !is_reached(x, h), NO_KEY);
-    let n3 = fault(n2, is_missing(pol, POLICY, p), NO_PARENT);
-    fault(n3, both(p == 0, is_given(c)), WRONG)
+    refuse_if(!is_typed(c, chip), Refusal::NoForm)?;
+    refuse_if(!is_reached(x, h), Refusal::NoKey)?;
+    refuse_if(is_missing(pol, POLICY, p), Refusal::NoParent)?;
+    refuse_if(both(p == 0, is_given(c)), Refusal::Wrong)?;
+    Ok(())
 }
 
 // ---- a typed PIN or PUK: at the limit nothing is compared and nothing changes; a wrong value adds one; what a right one does is the
@@ -177,15 +193,15 @@ fn by(v: Verdict, missed: Deed, right: Deed) -> Step
 {
     match v {
         Verdict::Locked => Step {
-            status: WRONG,
+            status: Err(Refusal::Wrong),
             deed: Deed::Nothing,
         },
         Verdict::Wrong => Step {
-            status: WRONG,
+            status: Err(Refusal::Wrong),
             deed: missed,
         },
         Verdict::Right => Step {
-            status: DONE,
+            status: Ok(()),
             deed: right,
         },
     }
@@ -227,23 +243,22 @@ fn delete_step(store: &[u8], c: &[u8], chip: &[u8]) -> Step
 {
     if MOST_RECORDS < store.len() / RECORD_BYTES {
         return Step {
-            status: UNSOUND,
+            status: Err(Refusal::Unsound),
             deed: Deed::Nothing,
         };
     }
     let k = four_at(c, SUBJECT);
     let x = target(store, k);
-    let n = delete_status(x, home(store, k), c, chip);
-    if n != DONE {
+    if let Err(e) = delete_status(x, home(store, k), c, chip) {
         return Step {
-            status: n,
+            status: Err(e),
             deed: Deed::Nothing,
         };
     }
     let protection = byte_at(x, DELETE_PROTECTION);
     if protection == 0 {
         return Step {
-            status: DONE,
+            status: Ok(()),
             deed: Deed::Remove(k),
         };
     }
@@ -265,7 +280,7 @@ fn unlock_step(store: &[u8], c: &[u8], chip: &[u8]) -> Step
 {
     if MOST_RECORDS < store.len() / RECORD_BYTES {
         return Step {
-            status: UNSOUND,
+            status: Err(Refusal::Unsound),
             deed: Deed::Nothing,
         };
     }
@@ -273,10 +288,9 @@ fn unlock_step(store: &[u8], c: &[u8], chip: &[u8]) -> Step
     let x = target(store, k);
     let pol = policy_of(store, x);
     let puk = puk_of(store, pol);
-    let n = unlock_status(x, home(store, k), pol, puk, c, chip);
-    if n != DONE {
+    if let Err(e) = unlock_status(x, home(store, k), pol, puk, c, chip) {
         return Step {
-            status: n,
+            status: Err(e),
             deed: Deed::Nothing,
         };
     }
@@ -301,17 +315,16 @@ fn change_step(store: &[u8], c: &[u8], chip: &[u8]) -> Step
 {
     if MOST_RECORDS < store.len() / RECORD_BYTES {
         return Step {
-            status: UNSOUND,
+            status: Err(Refusal::Unsound),
             deed: Deed::Nothing,
         };
     }
     let k = four_at(c, SUBJECT);
     let x = target(store, k);
     let pol = policy_of(store, x);
-    let n = change_status(x, home(store, k), pol, c, chip);
-    if n != DONE {
+    if let Err(e) = change_status(x, home(store, k), pol, c, chip) {
         return Step {
-            status: n,
+            status: Err(e),
             deed: Deed::Nothing,
         };
     }
@@ -325,16 +338,15 @@ fn use_step(store: &[u8], c: &[u8], chip: &[u8]) -> Step
     let k = four_at(c, SUBJECT);
     let x = target(store, k);
     let pol = policy_of(store, x);
-    let n = use_status(x, home(store, k), pol, c, chip);
-    if n != DONE {
+    if let Err(e) = use_status(x, home(store, k), pol, c, chip) {
         return Step {
-            status: n,
+            status: Err(e),
             deed: Deed::Nothing,
         };
     }
     if four_at(x, PARENT) == 0 {
         return Step {
-            status: DONE,
+            status: Ok(()),
             deed: Deed::Nothing,
         };
     }
@@ -373,9 +385,11 @@ fn act(store: &mut [u8], d: Deed, c: &[u8])
 fn enact(store: &mut [u8], s: Step, c: &[u8]) -> u8
     ensures { Answers (out_of s (typed_new c.now) (records store.old)) (bare_reply result) store.old store.new }
 {
-    let d = s.deed;
-    act(store, d, c);
-    s.status
+    act(store, s.deed, c);
+    match s.status {
+        Ok(()) => DONE,
+        Err(e) => u8::from(e),
+    }
 }
 
 // 80

@@ -17,3 +17,4 @@ pub mod Numbers
 pub mod Users
 pub mod Answer
 pub mod Issuing
+pub mod Refusal

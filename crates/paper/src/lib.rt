@@ -3,6 +3,9 @@
 
 #![tactic(auto)]
 
+ghost use Rattle.std.specs.Prelude.{◌≡◌};
+ghost use Rattle.paper.specs.Refusal.{number};
+
 // ---- the store
 
 pub const RECORD_BYTES: usize = 256;
@@ -18,7 +21,8 @@ pub const MOST_SESSIONS: u32 = 65535;
 
 pub const MOST_OBJECTS: usize = 999;
 
-// Kinds of records.
+// Kinds of records. They stay bytes: a lent record may have any, and what store_records promises of a kind holds for every byte (`is_kind`,
+// `is_that`). Code names them in a `match`.
 pub const FREE: u8 = 0;
 
 pub const SESSION: u8 = 1;
@@ -236,7 +240,7 @@ pub const REPLY_HANDLE: usize = 1;
 
 pub const REPLY_ATTESTATION: usize = 5;
 
-// ---- statuses
+// ---- statuses, as the reply and C have them
 
 pub const DONE: u8 = 0;
 
@@ -265,3 +269,44 @@ pub const UNSOUND: u8 = 19;
 pub const NO_PARENT: u8 = 20;
 
 pub const SHORT_REPLY: u8 = 21;
+
+// ---- refusals: why a call is refused. Each has its status as number
+
+#[derive(Clone, Copy, Debug, PartialEq, Eq)]
+pub enum Refusal {
+    Wrong,
+    NoRoom,
+    MacDiffers,
+    NotVerified,
+    NotOpen,
+    NotFit,
+    NoKey,
+    NoAlgorithm,
+    NoForm,
+    BreaksRule,
+    Unsound,
+    NoParent,
+    ShortReply,
+}
+
+impl From<Refusal> for u8 {
+    ghost from_gives = { λ e n. n ≡ number e };
+
+    fn from(e: Refusal) -> u8 {
+        match e {
+            Refusal::Wrong => WRONG,
+            Refusal::NoRoom => NO_ROOM,
+            Refusal::MacDiffers => MAC_DIFFERS,
+            Refusal::NotVerified => NOT_VERIFIED,
+            Refusal::NotOpen => NOT_OPEN,
+            Refusal::NotFit => NOT_FIT,
+            Refusal::NoKey => NO_KEY,
+            Refusal::NoAlgorithm => NO_ALGORITHM,
+            Refusal::NoForm => NO_FORM,
+            Refusal::BreaksRule => BREAKS_RULE,
+            Refusal::Unsound => UNSOUND,
+            Refusal::NoParent => NO_PARENT,
+            Refusal::ShortReply => SHORT_REPLY,
+        }
+    }
+}

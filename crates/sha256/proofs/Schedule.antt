@@ -1,5 +1,5 @@
 -- Laws of the message schedule: its next word, early and late, and how an array that is filled from the front becomes it.
-use Rattle.std.proofs.Common.{◌≡◌, ℕ, ◌+◌, ◌-◌, ◌*◌, ◌<◌, ◌≤◌, List, length, get_or, take, drop, set, sym, ◌∙◌, add_assoc, add-one, arith, get_or-drop, take_all, get_or-take, take-suc-set, le-ltb, lt-ltb}
+use Rattle.std.proofs.Common.{◌≡◌, ℕ, ◌+◌, ◌-◌, ◌*◌, ◌<◌, ◌≤◌, List, length, get_or, take, set, sym, ◌∙◌, add-one, arith, take_all, get_or-take, take-suc-set, le-ltb, lt-ltb}
 use Rattle.sha256.specs.Sha256.{schedule, next_word, word_at, mixed}
 
 -- the first sixteen words are the block's
@@ -13,15 +13,6 @@ pub late : (b ws w : List ℕ) (t : ℕ) → 16 ≤ t → take t w ≡ ws
 unfolding next_word
 late b ws w t h e =
     rw (le-ltb t 16 h, ← e, get_or-take t w (t - 2) 0 (omega arith), get_or-take t w (t - 7) 0 (omega arith), get_or-take t w (t - 15) 0 (omega arith), get_or-take t w (t - 16) 0 (omega arith))
-
--- a byte, and a word, of the block within a slice
-byte_in : (d : List ℕ) (at i : ℕ) → i < 64 → get_or (take 64 (drop at d)) i 0 ≡ get_or d (at + i) 0
-byte_in d at i h = get_or-take 64 (drop at d) i 0 h ∙ get_or-drop at d i 0
-
-pub word_in : (d : List ℕ) (at p : ℕ) → p + 4 ≤ 64 → word_at (take 64 (drop at d)) p ≡ word_at d (at + p)
-unfolding word_at
-word_in d at p h =
-    rw (byte_in d at p (omega arith), byte_in d at (p + 1) (omega arith), byte_in d at (p + 2) (omega arith), byte_in d at (p + 3) (omega arith), ← add_assoc at p 1, ← add_assoc at p 2, ← add_assoc at p 3)
 
 -- one word more is stored
 pub grow : (b w : List ℕ) (t v : ℕ) → t < length w → take t w ≡ schedule b t → v ≡ next_word b (schedule b t) t

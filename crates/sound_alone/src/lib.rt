@@ -69,19 +69,15 @@ fn blank_to(r: &[u8], i: usize, end: usize) -> bool
     is_blank(part_of(r, i, end - i))
 }
 
-// Whether the bytes behind the first v are 0. A field is gone through to its end whatever v is, and the place is counted once more in a
-// byte, as v is one: so 16 places are compared with v at a time.
+// Whether the bytes behind the first v are 0. A field is gone through to its end whatever v is, and the place is compared as a byte, as
+// v is one: so 16 places are compared with v at a time.
 fn blank_behind(s: &[u8], v: u8) -> bool
     requires { length s.now ≤ 255 }
     ensures { result ≡ is_blank (drop v s.now) }
 {
     let mut bad = false;
-    let mut p: u8 = 0;
-    let mut i: usize = 0;
-    while i < s.len() {
-        bad = bad | ((v <= p) & (s[i] != 0));
-        p += 1;
-        i += 1;
+    for (i, b) in s.iter().enumerate() {
+        bad |= (v <= i as u8) & (*b != 0);
     }
     !bad
 }
@@ -92,14 +88,9 @@ fn ident_then_blank(s: &[u8], v: u8) -> bool
     ensures { result ≡ is_blank (drop v s.now) && printable (take v s.now) }
 {
     let mut bad = false;
-    let mut p: u8 = 0;
-    let mut i: usize = 0;
-    while i < s.len() {
-        bad = bad
-            | (((p < v) & !is_within(s[i], FIRST_PRINTABLE, LAST_PRINTABLE))
-                | ((v <= p) & (s[i] != 0)));
-        p += 1;
-        i += 1;
+    for (i, b) in s.iter().enumerate() {
+        let p = i as u8;
+        bad |= ((p < v) & !is_within(*b, FIRST_PRINTABLE, LAST_PRINTABLE)) | ((v <= p) & (*b != 0));
     }
     !bad
 }
@@ -109,7 +100,7 @@ fn is_text(r: &[u8], i: usize, n: u8, lo: u8) -> bool
     ensures { result ≡ field_fits (text n lo) i r.now }
 {
     let v = byte_at(r, i);
-    is_within(v, lo, n) & blank_behind(part_of(r, i + 1, n as usize), v)
+    is_within(v, lo, n) & blank_behind(part_of(r, i + 1, usize::from(n)), v)
 }
 
 fn is_ident(r: &[u8], i: usize, n: u8, lo: u8) -> bool
@@ -117,7 +108,7 @@ fn is_ident(r: &[u8], i: usize, n: u8, lo: u8) -> bool
     ensures { result ≡ field_fits (ident n lo) i r.now }
 {
     let v = byte_at(r, i);
-    is_within(v, lo, n) & ident_then_blank(part_of(r, i + 1, n as usize), v)
+    is_within(v, lo, n) & ident_then_blank(part_of(r, i + 1, usize::from(n)), v)
 }
 
 fn fits_session(r: &[u8]) -> bool
@@ -194,25 +185,15 @@ fn fits_free(r: &[u8]) -> bool
 fn fits_kind(r: &[u8], k: u8) -> bool
     ensures { result ≡ fits (fields_of k) 0 r.now }
 {
-    if k == SESSION {
-        return fits_session(r);
+    match k {
+        SESSION => fits_session(r),
+        PUK => fits_puk(r),
+        POLICY => fits_policy(r),
+        KEY => fits_key(r),
+        PENDING => fits_pending(r),
+        COUNTER => fits_counter(r),
+        _ => fits_free(r),
     }
-    if k == PUK {
-        return fits_puk(r);
-    }
-    if k == POLICY {
-        return fits_policy(r);
-    }
-    if k == KEY {
-        return fits_key(r);
-    }
-    if k == PENDING {
-        return fits_pending(r);
-    }
-    if k == COUNTER {
-        return fits_counter(r);
-    }
-    fits_free(r)
 }
 
 // Whether a record obeys the table.
@@ -239,8 +220,8 @@ fn object_carries(r: &[u8]) -> bool
     ensures { result ≡ test (object_carries r.now) }
 {
     let k = byte_at(r, KIND);
-    let own = four_at(r, OWN) as u64;
-    let session = four_at(r, HOME) as u64;
+    let own = u64::from(four_at(r, OWN));
+    let session = u64::from(four_at(r, HOME));
     let numbered = (session + 1 <= own) & (own <= session + MOST_OBJECTS as u64);
     !((PUK <= k) & (k <= PENDING)) | numbered
 }
@@ -307,25 +288,18 @@ pub fn is_alone(r: &[u8]) -> bool
     if !obeys(r) {
         return false;
     }
-    let k = byte_at(r, KIND);
-    if k == SESSION {
-        let wiped = wiped_while(r, SESSION, CLOSED, SESSION_KEY);
-        return session_carries(r) & (mac_counts(r) & wiped);
+    match byte_at(r, KIND) {
+        SESSION => {
+            let wiped = wiped_while(r, SESSION, CLOSED, SESSION_KEY);
+            session_carries(r) & (mac_counts(r) & wiped)
+        }
+        PUK => object_carries(r) & puk_counts(r),
+        POLICY => object_carries(r) & lengths_rise(r),
+        KEY => {
+            let pinned = pinned_key(r) & wiped_while(r, KEY, 0, DIGEST);
+            object_carries(r) & (bare_key(r) & pinned)
+        }
+        PENDING => object_carries(r) & target_unless_stale(r),
+        _ => true,
     }
-    if !object_carries(r) {
-        return false;
-    }
-    if k == PUK {
-        return puk_counts(r);
-    }
-    if k == POLICY {
-        return lengths_rise(r);
-    }
-    if k == KEY {
-        return bare_key(r) & (pinned_key(r) & wiped_while(r, KEY, 0, DIGEST));
-    }
-    if k == PENDING {
-        return target_unless_stale(r);
-    }
-    true
 }

@@ -3,20 +3,17 @@
 #![tactic(auto)]
 
 ghost use Rattle.std.specs.Prelude.{◌≡◌};
-ghost use Rattle.paper.specs.Form.{test, each, ◌equals◌, no, ◌then◌};
+ghost use Rattle.paper.specs.Form.{test, ◌equals◌, no, ◌then◌};
 ghost use Rattle.paper.specs.Records.{records, kind, parent, session};
 ghost use Rattle.paper.specs.Sound.{parentless, is_in, session_there, key_there, target_there, housed, childless, policies_used};
 ghost use Rattle.sound_kin.specs.Settled.{alike, met, settled};
 
 use hmac::is_same;
 use paper::{
-    GROUPING, HOME, KEY, KIND, OWN, PARENT, PENDING, PIN_WIDTH, POLICY, PUK, RECORD_BYTES, SESSION,
-    SHARED, VALUE,
+    GROUPING, HOME, KEY, KIND, OWN, PARENT, PENDING, PIN_WIDTH, POLICY, PUK, SESSION, SHARED, VALUE,
 };
 use sound_pairs::{is_closed, is_governed, is_object};
-use store_records::{
-    Choice, byte_at, first, four_at, has, is_kind, part_of, record_at, session_of,
-};
+use store_records::{Choice, byte_at, first, four_at, has, is_kind, part_of, records, session_of};
 
 fn session_there(s: &[u8], y: &[u8]) -> bool
     ensures { result ≡ test (session_there (records s.now) y.now) }
@@ -77,14 +74,11 @@ fn is_housed(s: &[u8], r: &[u8]) -> bool
 fn is_childless(s: &[u8], y: &[u8]) -> bool
     ensures { result ≡ test (childless (records s.now) y.now) }
 {
-    let k = byte_at(y, KIND);
-    if k == PUK {
-        return !has(s, Choice::Child(POLICY, four_at(y, OWN), four_at(y, HOME)));
+    match byte_at(y, KIND) {
+        PUK => !has(s, Choice::Child(POLICY, four_at(y, OWN), four_at(y, HOME))),
+        POLICY => !has(s, Choice::Child(KEY, four_at(y, OWN), four_at(y, HOME))),
+        _ => false,
     }
-    if k == POLICY {
-        return !has(s, Choice::Child(KEY, four_at(y, OWN), four_at(y, HOME)));
-    }
-    false
 }
 
 fn is_used(s: &[u8], x: &[u8], y: &[u8]) -> bool
@@ -118,21 +112,7 @@ fn is_met(s: &[u8], x: &[u8], f: &[u8], y: &[u8]) -> bool
     is_used(s, x, y) & is_alike(x, f, y)
 }
 
-fn all_met(s: &[u8], x: &[u8], f: &[u8]) -> bool
-    ensures { result ≡ test (each (records s.now) (met (records s.now) x.now f.now)) }
-{
-    let n = s.len() / RECORD_BYTES;
-    let mut i: usize = 0;
-    while i < n {
-        if !is_met(s, x, f, record_at(s, i)) {
-            return false;
-        }
-        i += 1;
-    }
-    true
-}
-
-// Whether all is as the record x asks of the others. For most records the loop is not gone through.
+// Whether all is as the record x asks of the others. For most records the others are not gone through.
 pub fn is_settled(s: &[u8], x: &[u8]) -> bool
     ensures { result ≡ test (settled (records s.now) x.now) }
 {
@@ -143,5 +123,5 @@ pub fn is_settled(s: &[u8], x: &[u8]) -> bool
         return true;
     }
     let f = first(s, Choice::Child(KEY, four_at(x, OWN), four_at(x, HOME)));
-    all_met(s, x, f)
+    records(s).all(|y| is_met(s, x, f, y))
 }

@@ -107,9 +107,9 @@ pub fn is_object(r: &[u8]) -> bool
 fn below_next(x: &[u8], y: &[u8]) -> bool
     ensures { result ≡ test (below_next x.now y.now) }
 {
-    let own = four_at(x, OWN) as u64;
-    let next = own + (two_at(x, NEXT_OBJECT) as u64);
-    let below = !(four_at(y, HOME) as u64 == own) | ((four_at(y, OWN) as u64) + 1 <= next);
+    let own = u64::from(four_at(x, OWN));
+    let next = own + two_at(x, NEXT_OBJECT) as u64;
+    let below = !(u64::from(four_at(y, HOME)) == own) | (u64::from(four_at(y, OWN)) + 1 <= next);
     !(byte_at(x, KIND) == SESSION) | (!is_object(y) | below)
 }
 
@@ -194,8 +194,8 @@ fn target_pinned(x: &[u8], y: &[u8]) -> bool
 fn below_counter(x: &[u8], y: &[u8]) -> bool
     ensures { result ≡ test (below_counter x.now y.now) }
 {
-    let next = (four_at(x, NEXT_SESSION) as u64) * (HANDLE_STEP as u64);
-    let below = (four_at(y, OWN) as u64) + 1 <= next;
+    let next = u64::from(four_at(x, NEXT_SESSION)) * u64::from(HANDLE_STEP);
+    let below = u64::from(four_at(y, OWN)) + 1 <= next;
     !(byte_at(x, KIND) == COUNTER) | (!(byte_at(y, KIND) == SESSION) | below)
 }
 
@@ -212,15 +212,10 @@ pub fn is_concerned(x: &[u8]) -> bool
 pub fn is_related(x: &[u8], y: &[u8]) -> bool
     ensures { result ≡ test (related x.now y.now) }
 {
-    let k = byte_at(x, KIND);
-    if k == SESSION {
-        return session_related(x, y);
+    match byte_at(x, KIND) {
+        SESSION => session_related(x, y),
+        POLICY => policy_related(x, y),
+        KEY => target_pinned(x, y),
+        _ => below_counter(x, y),
     }
-    if k == POLICY {
-        return policy_related(x, y);
-    }
-    if k == KEY {
-        return target_pinned(x, y);
-    }
-    below_counter(x, y)
 }

@@ -2,16 +2,16 @@
 use mathlib.Core.Bool.{Bool, true, false, not, ◌&&◌, ◌||◌, and-false, or-false, or_assoc}
 use mathlib.Core.Path.{◌≡◌, refl, sym, ap, ◌∙◌}
 use mathlib.Core.List.{List, [], ◌∷◌, ◌++◌, map}
-use Prim.Native.Nat.{ℕ, zero, suc, ◌+◌, ◌-◌, ◌%◌, ◌≤◌, ◌<◌}
+use Prim.Native.Nat.{ℕ, zero, suc, min, ◌+◌, ◌-◌, ◌%◌, ◌≤◌, ◌<◌}
 use native.Mathlib.Nat.{le_of_suc-le-suc, not-suc-le-zero}
 use native.Mathlib.Numerals.{add-one}
 use native.Mathlib.Omega.{arith}
 use borrow.Author.Tests.{ne_eqb}
 use lib.Dec.{eqb}
-use lib.ListN.{length, get_or, take, drop, set, drop_of_length-le, length-replicate, length-set}
+use lib.ListN.{length, get_or, take, drop, set, drop_of_length-le, length-replicate, length-set, length-drop}
 use lib.Seq.{take-suc, drop-cons, set_at, length-take-le, append_snoc, take_all, take_at, drop-length, get_or-set_same, get_or-set_other}
 use Rattle.paper.specs.Bytes.{zeros_of}
-use Rattle.paper.specs.Form.{Rec, ◌equals◌}
+use Rattle.paper.specs.Form.{Rec, ◌equals◌, ◌=<◌}
 use Rattle.paper.proofs.Forms.{contrary, cases}
 use Rattle.laws.proofs.Choice.{either}
 use Rattle.sound_quick.specs.Marks.{mark_of, occurs, repeated, differing, column}
@@ -39,6 +39,10 @@ module _ (c : List ℕ) (i : ℕ) (p : 0 < i) (h : i ≤ length c) where
   unfolding differing
   row_step = rw row
 
+  -- what the slice behind row i - 1 holds
+  pub rows_behind : take (length c - (i - 1 + 1)) (drop (i - 1 + 1) c) ≡ drop i c
+  rows_behind = let e : i - 1 + 1 ≡ i = omega arith in rw e (take_all (length c - i) (drop i c) (omega (arith, length-drop i c)))
+
 pub no_row : (c : List ℕ) → differing (drop (length c) c) ≡ true
 unfolding differing
 no_row c = rw (drop-length c)
@@ -54,26 +58,26 @@ pub every-row : (c : List ℕ) (i : ℕ) → i ≤ 0 → differing (drop i c) �
 every-row c i h e = let z : i ≡ 0 = omega arith in rw z at e
 
 -- the buckets of the marks seen
-pub record Seen (t xs : List ℕ) : Type 0 where
+pub record Seen (t : List Bool) (xs : List ℕ) : Type 0 where
   pub long : length t ≡ 1021
-  pub hit : (x : ℕ) → occurs x xs ≡ true → get_or t (x % 1021) 0 ≡ 1
+  pub hit : (x : ℕ) → occurs x xs ≡ true → get_or t (x % 1021) false ≡ true
 
-pub seen_none : (t c : List ℕ) → length t ≡ 1021 → Seen t (drop (length c) c)
+pub seen_none : (t : List Bool) (c : List ℕ) → length t ≡ 1021 → Seen t (drop (length c) c)
 unfolding occurs
 seen_none t c l = rw (drop-length c) (record { long = l; hit = λ x e. contrary (sym e) })
 
-pub seen_more : {t xs : List ℕ} → Seen t xs → (y : ℕ) → Seen (set t (y % 1021) 1) (y ∷ xs)
+pub seen_more : {t : List Bool} {xs : List ℕ} → Seen t xs → (y : ℕ) → Seen (set t (y % 1021) true) (y ∷ xs)
 unfolding occurs
 seen_more {t} {xs} S y =
     record {
       long = rw length-set S.long;
       hit = λ x e. cases (x % 1021 equals y % 1021)
-          (λ q. rw q (get_or-set_same t (y % 1021) 1 0 (omega (arith, S.long))))
-          (λ q. get_or-set_other t (y % 1021) (x % 1021) 1 0 q ∙ S.hit x (rw (ne_eqb y x (λ z. q (ap (λ (v : ℕ). v % 1021) (sym z)))) at e));
+          (λ q. rw q (get_or-set_same t (y % 1021) true false (omega (arith, S.long))))
+          (λ q. get_or-set_other t (y % 1021) (x % 1021) true false q ∙ S.hit x (rw (ne_eqb y x (λ z. q (ap (λ (v : ℕ). v % 1021) (sym z)))) at e));
     }
 
-pub unseen : {t xs : List ℕ} → Seen t xs → (x : ℕ) → (get_or t (x % 1021) 0 ≡ 1 → ⊥) → occurs x xs ≡ false
-unseen {t} {xs} S x n = either (occurs x xs) (λ e. absurd (n (S.hit x e))) (λ e. e)
+pub unseen : {t : List Bool} {xs : List ℕ} → Seen t xs → (x : ℕ) → get_or t (x % 1021) false ≡ false → occurs x xs ≡ false
+unseen {t} {xs} S x n = either (occurs x xs) (λ e. contrary (sym (S.hit x e) ∙ n)) (λ e. e)
 
 -- ---- a column is filled
 
@@ -112,16 +116,21 @@ drop-zeros (suc n) (suc k) =
 
 module _ (named : Bool) (rs : List Rec) where
   -- where all records have room, and where they have not
-  pub filled_all : length rs ≤ 256 → Filled (mark_of named) rs (length rs) ≡ column named rs
+  filled_all : length rs ≤ 256 → Filled (mark_of named) rs (length rs) ≡ column named rs
   unfolding column
   filled_all h =
       let m : List ℕ = map (mark_of named) rs in
       let l : length m ≡ length rs = length_marks (mark_of named) rs in
       rw (take_all (length rs) m (omega arith), take_all 256 m (omega arith), drop-zeros 256 (length rs))
 
-  pub filled_up : 256 < length rs → Filled (mark_of named) rs 256 ≡ column named rs
+  filled_up : 256 < length rs → Filled (mark_of named) rs 256 ≡ column named rs
   unfolding column
   filled_up h = let e : 256 - length rs ≡ 0 = omega arith in rw e
+
+  pub filled : (n : ℕ) → n ≡ min (length rs) 256 → Filled (mark_of named) rs n ≡ column named rs
+  filled n e = cases (length rs =< 256)
+      (λ h. let m : n ≡ length rs = omega (arith, e) in rw m (filled_all h))
+      (λ o. let m : n ≡ 256 = omega (arith, e) in rw m (filled_up (omega arith)))
 
   -- the marks are the column's front
   pub front : length rs ≤ 256 → take (length rs) (column named rs) ≡ map (mark_of named) rs

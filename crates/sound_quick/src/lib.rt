@@ -2,9 +2,8 @@
 
 #![tactic(auto)]
 
-ghost use Rattle.std.specs.Prelude.{false, ◌≡◌, map, ◌++◌, ◌-◌, ◌/◌, ◌≤◌, length, take, drop};
+ghost use Rattle.std.specs.Prelude.{◌≡◌, false, map, ◌/◌, ◌≤◌, length};
 ghost use Rattle.paper.specs.Limits.{record_bytes, most_records};
-ghost use Rattle.paper.specs.Bytes.{zeros_of};
 ghost use Rattle.paper.specs.Records.{records};
 ghost use Rattle.sound_quick.specs.Marks.{mixed, handle_mark, pending_mark, name_mark, mark_of, occurs, repeated, differing, column, marks_differ};
 ghost use Rattle.paper.specs.Form.{test};
@@ -13,11 +12,11 @@ ghost use Rattle.sound_quick.specs.Near.{key_near, session_near, object_near, ch
 use hmac::is_same;
 use paper::{
     CLIENT_ID, COUNTER, GROUPING, HOME, ID, ID_WIDTH, KEY, KIND, MOST_RECORDS, OWN, PARENT,
-    PENDING, PIN_WIDTH, POLICY, PUK, RECORD_BYTES, SESSION, SHARED, VALUE,
+    PENDING, PIN_WIDTH, POLICY, PUK, SESSION, SHARED, VALUE,
 };
-use sound_pairs::{has_handle, has_id, is_closed, is_object, is_related};
+use sound_pairs::{has_handle, is_closed, is_object, is_related};
 use store_records::{
-    byte_at, four_at, is_child, is_kind, is_of, is_that, part_of, record_at, session_of,
+    byte_at, count, four_at, is_child, is_kind, is_of, is_that, part_of, record_at, session_of,
 };
 
 // ---- marks: each record gets a number, and where no number occurs twice the records are distinct in the paper's sense
@@ -31,31 +30,23 @@ const PRIME: u64 = 4294967291;
 // No other mark is above that prime.
 const COUNTER_MARK: u32 = 4294967295;
 
-// Whether x occurs in c from place `from` on.
-fn has_twin(c: &[u32], from: usize, x: u32) -> bool
-    ensures { result ≡ occurs x (drop from c.now) }
+// Whether x occurs in c.
+fn has_twin(c: &[u32], x: u32) -> bool
+    ensures { result ≡ occurs x c.now }
 {
     let mut hit = false;
-    let mut i = from;
-    while i < c.len() {
-        hit = hit | (c[i] == x);
-        i += 1;
+    for y in c {
+        hit |= *y == x;
     }
     hit
 }
 
 // The same of a mark: 0 says nothing. Where the mark's bucket was not seen there is nothing to compare.
-fn is_repeated(c: &[u32], from: usize, x: u32, seen: u8) -> bool
-    requires { (seen ≡ 1 → ⊥) → occurs x (drop from c.now) ≡ false }
-    ensures { result ≡ repeated x (drop from c.now) }
+fn is_repeated(c: &[u32], x: u32, seen: bool) -> bool
+    requires { seen ≡ false → occurs x c.now ≡ false }
+    ensures { result ≡ repeated x c.now }
 {
-    if x == 0 {
-        return false;
-    }
-    if seen != 1 {
-        return false;
-    }
-    has_twin(c, from, x)
+    x != 0 && seen && has_twin(c, x)
 }
 
 // Whether no mark of c occurs twice. From the last mark to the first: a mark is compared with those behind it only where one of them
@@ -63,16 +54,14 @@ fn is_repeated(c: &[u32], from: usize, x: u32, seen: u8) -> bool
 pub fn differ(c: &[u32]) -> bool
     ensures { result ≡ differing c.now }
 {
-    let mut seen = [0u8; 1021];
-    let mut i = c.len();
-    while 0 < i {
-        let x = c[i - 1];
+    let mut seen = [false; 1021];
+    for i in (0..c.len()).rev() {
+        let x = c[i];
         let b = (x % BUCKETS) as usize;
-        if is_repeated(c, i, x, seen[b]) {
+        if is_repeated(&c[i + 1..], x, seen[b]) {
             return false;
         }
-        seen[b] = 1;
-        i -= 1;
+        seen[b] = true;
     }
     true
 }
@@ -81,17 +70,17 @@ pub fn differ(c: &[u32]) -> bool
 fn mix(a: u32, b: u32, p: &[u8]) -> u32
     ensures { result ≡ mixed a b p.now }
 {
-    let m = (a as u64) * 104395301
-        + (b as u64) * 122949823
-        + (four_at(p, 0) as u64) * 86028121
-        + (four_at(p, 4) as u64) * 67867967
-        + (four_at(p, 8) as u64) * 49979687
-        + (four_at(p, 12) as u64) * 32452843
-        + (four_at(p, 16) as u64) * 15485863
-        + (four_at(p, 20) as u64) * 113648711
-        + (four_at(p, 24) as u64) * 95189713
-        + (four_at(p, 28) as u64) * 77557187
-        + (byte_at(p, 32) as u64) * 58600471;
+    let m = u64::from(a) * 104395301
+        + u64::from(b) * 122949823
+        + u64::from(four_at(p, 0)) * 86028121
+        + u64::from(four_at(p, 4)) * 67867967
+        + u64::from(four_at(p, 8)) * 49979687
+        + u64::from(four_at(p, 12)) * 32452843
+        + u64::from(four_at(p, 16)) * 15485863
+        + u64::from(four_at(p, 20)) * 113648711
+        + u64::from(four_at(p, 24)) * 95189713
+        + u64::from(four_at(p, 28)) * 77557187
+        + u64::from(byte_at(p, 32)) * 58600471;
     (m % PRIME + 1) as u32
 }
 
@@ -107,20 +96,13 @@ fn handle_mark(r: &[u8]) -> u32
 fn name_mark(r: &[u8]) -> u32
     ensures { result ≡ name_mark r.now }
 {
-    let k = byte_at(r, KIND);
-    if k == SESSION {
-        return mix(0, 0, part_of(r, CLIENT_ID, ID_WIDTH));
+    match byte_at(r, KIND) {
+        SESSION => mix(0, 0, part_of(r, CLIENT_ID, ID_WIDTH)),
+        PUK | POLICY | KEY => mix(four_at(r, HOME), 0, part_of(r, ID, ID_WIDTH)),
+        PENDING => pending_mark(r),
+        COUNTER => COUNTER_MARK,
+        _ => 0,
     }
-    if has_id(r) {
-        return mix(four_at(r, HOME), 0, part_of(r, ID, ID_WIDTH));
-    }
-    if k == PENDING {
-        return pending_mark(r);
-    }
-    if k == COUNTER {
-        return COUNTER_MARK;
-    }
-    0
 }
 
 // That of a pending: its session and its target, if it has one.
@@ -144,29 +126,15 @@ pub fn mark_of(r: &[u8], named: bool) -> u32
     handle_mark(r)
 }
 
-// The marks of the first n records, then zeros.
-fn marks_to(s: &[u8], named: bool, n: usize) -> [u32; 256]
-    requires { (n ≤ most_records) × (n ≤ length s.now / record_bytes) }
-    ensures { result ≡ take n (map (mark_of named) (records s.now)) ++ drop n (zeros_of most_records) }
-{
-    let mut p = [0u32; 256];
-    let mut i: usize = 0;
-    while i < n {
-        p[i] = mark_of(record_at(s, i), named);
-        i += 1;
-    }
-    p
-}
-
-// A store's column of marks.
+// A store's column of marks: those of its records, as far as there is room, then zeros.
 pub fn marks(s: &[u8], named: bool) -> [u32; 256]
     ensures { result ≡ column named (records s.now) }
 {
-    let n = s.len() / RECORD_BYTES;
-    if MOST_RECORDS < n {
-        return marks_to(s, named, MOST_RECORDS);
+    let mut p = [0u32; 256];
+    for i in 0..count(s).min(MOST_RECORDS) {
+        p[i] = mark_of(record_at(s, i), named);
     }
-    marks_to(s, named, n)
+    p
 }
 
 // Whether no mark of a column occurs twice.
@@ -175,14 +143,14 @@ fn column_differs(s: &[u8], named: bool) -> bool
     ensures { result ≡ differing (map (mark_of named) (records s.now)) }
 {
     let c = marks(s, named);
-    differ(&c[0..s.len() / RECORD_BYTES])
+    differ(&c[..count(s)])
 }
 
 // Whether all marks of a store differ. One column at a time: a kilobyte of stack.
 pub fn marks_differ(s: &[u8]) -> bool
     ensures { result ≡ marks_differ (records s.now) }
 {
-    if MOST_RECORDS < s.len() / RECORD_BYTES {
+    if MOST_RECORDS < count(s) {
         return false;
     }
     if !column_differs(s, false) {
@@ -285,12 +253,25 @@ fn target_near(p: &[u8], t: &[u8], y: &[u8]) -> bool
     is_that(p, KEY, o, h) & (is_related(p, y) & (is_that(t, SESSION, h, h) & is_related(t, y)))
 }
 
-// Whether the record y stands to the counter c, its session x, its parent or target p, the target's session t, its child k and a key
-// q under the same policy as it should.
-pub fn is_near(c: &[u8], x: &[u8], p: &[u8], t: &[u8], k: &[u8], q: &[u8], y: &[u8]) -> bool
-    ensures { result ≡ test (near c.now x.now p.now t.now k.now q.now y.now) }
+// The records that a record is shown: the counter, its session, its parent or target, the target's session, its child, and a key under
+// the same policy.
+#[derive(Clone, Copy)]
+pub struct Neighbours<'a> {
+    pub counter: &'a [u8],
+    pub session: &'a [u8],
+    pub parent: &'a [u8],
+    pub home: &'a [u8],
+    pub child: &'a [u8],
+    pub fellow: &'a [u8],
+}
+
+// Whether the record y stands to those as it should.
+pub fn is_near(n: Neighbours<'_>, y: &[u8]) -> bool
+    ensures { result ≡ test (near n.entry.counter.now n.entry.session.now n.entry.parent.now n.entry.home.now n.entry.child.now n.entry.fellow.now y.now) }
 {
-    let above = puk_near(p, y) & (policy_near(p, q, y) & target_near(p, t, y));
-    let below = child_near(x, k, y, PUK, POLICY) & (child_near(x, k, y, POLICY, KEY) & above);
-    session_near(c, k, y) & (object_near(x, y) & below)
+    let policy = policy_near(n.parent, n.fellow, y);
+    let above = puk_near(n.parent, y) & (policy & target_near(n.parent, n.home, y));
+    let under_policy = child_near(n.session, n.child, y, POLICY, KEY);
+    let below = child_near(n.session, n.child, y, PUK, POLICY) & (under_policy & above);
+    session_near(n.counter, n.child, y) & (object_near(n.session, y) & below)
 }

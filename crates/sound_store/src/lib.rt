@@ -20,77 +20,44 @@ use paper::{
 use sound_alone::is_alone;
 use sound_kin::is_settled;
 use sound_pairs::{are_distinct, is_concerned, is_related};
-use sound_quick::{is_near, marks_differ};
-use store_records::{Choice, byte_at, find, four_at, has, record_at, size_at};
+use sound_quick::{Neighbours, is_near, marks_differ};
+use store_records::{Choice, byte_at, count, find, four_at, has, record_at, records, size_at};
 
 pub fn length_fits(s: &[u8]) -> bool
     ensures { result ≡ length_fits s.now }
 {
-    let n = s.len() / RECORD_BYTES;
+    let n = count(s);
     (s.len() % RECORD_BYTES == 0) & ((FEWEST_RECORDS <= n) & (n <= MOST_RECORDS))
 }
 
 fn all_alone(s: &[u8]) -> bool
     ensures { result ≡ test (each (records s.now) alone) }
 {
-    let n = s.len() / RECORD_BYTES;
-    let mut i: usize = 0;
-    while i < n {
-        if !is_alone(record_at(s, i)) {
-            return false;
-        }
-        i += 1;
-    }
-    true
+    records(s).all(|r| is_alone(r))
 }
 
 // x and each record from place `from` on.
 fn distinct_from(s: &[u8], from: usize, x: &[u8]) -> bool
     ensures { result ≡ every (λ y. test (distinct x.now y)) (drop from (records s.now)) }
 {
-    let n = s.len() / RECORD_BYTES;
-    let mut i = from;
-    while i < n {
-        if !are_distinct(x, record_at(s, i)) {
-            return false;
-        }
-        i += 1;
-    }
-    true
+    records(s).skip(from).all(|y| are_distinct(x, y))
 }
 
-// x and each record.
-fn related_each(s: &[u8], x: &[u8]) -> bool
-    ensures { result ≡ test (each (records s.now) (related x.now)) }
-{
-    let n = s.len() / RECORD_BYTES;
-    let mut i: usize = 0;
-    while i < n {
-        if !is_related(x, record_at(s, i)) {
-            return false;
-        }
-        i += 1;
-    }
-    true
-}
-
-// Most records say nothing of others, and the loop is not gone through for them.
+// x and each record. Most records say nothing of others, which are not gone through for them.
 fn related_to(s: &[u8], x: &[u8]) -> bool
     ensures { result ≡ test (each (records s.now) (related x.now)) }
 {
     if !is_concerned(x) {
         return true;
     }
-    related_each(s, x)
+    records(s).all(|y| is_related(x, y))
 }
 
 // The clauses of two records: of each record with those behind it, and with all.
 fn all_paired(s: &[u8]) -> bool
     ensures { result ≡ test (paired (records s.now)) }
 {
-    let n = s.len() / RECORD_BYTES;
-    let mut i: usize = 0;
-    while i < n {
+    for i in 0..count(s) {
         let x = record_at(s, i);
         if !distinct_from(s, i + 1, x) {
             return false;
@@ -98,7 +65,6 @@ fn all_paired(s: &[u8]) -> bool
         if !related_to(s, x) {
             return false;
         }
-        i += 1;
     }
     true
 }
@@ -107,15 +73,7 @@ fn all_paired(s: &[u8]) -> bool
 fn all_settled(s: &[u8]) -> bool
     ensures { result ≡ test (each (records s.now) (settled (records s.now))) }
 {
-    let n = s.len() / RECORD_BYTES;
-    let mut i: usize = 0;
-    while i < n {
-        if !is_settled(s, record_at(s, i)) {
-            return false;
-        }
-        i += 1;
-    }
-    true
+    records(s).all(|r| is_settled(s, r))
 }
 
 // The clauses of more than one record.
@@ -128,7 +86,8 @@ fn agree(s: &[u8]) -> bool
     all_settled(s)
 }
 
-// ---- the quick way: neighbours by their places
+// ---- the quick way: neighbours by their places. The tables of places are fixed arrays of a byte each, and no heap; that the records are at
+// most 256 each function that fills or reads such a table by place asks for itself, as the readers take any slice
 
 // A session's handle is its number times 65,536, an object's number is added. Handles of one store seldom meet in one slot.
 const SLOTS: u32 = 1024;
@@ -156,11 +115,8 @@ fn seats(s: &[u8], t: &mut [u8])
     requires { (length s.now / record_bytes ≤ most_records) × (length t.old ≡ 1024) }
     ensures { t.new ≡ along by_slot 0 (records s.now) t.old }
 {
-    let n = s.len() / RECORD_BYTES;
-    let mut i: usize = 0;
-    while i < n {
-        note(t, slot(four_at(record_at(s, i), OWN)), i, true);
-        i += 1;
+    for i in 0..count(s) {
+        t[slot(four_at(record_at(s, i), OWN))] = i as u8;
     }
 }
 
@@ -169,15 +125,7 @@ fn sought(s: &[u8], h: u32) -> usize
     requires { length s.now / record_bytes ≤ most_records }
     ensures { (result ≡ place_of h (records s.now)) × (result ≤ 255) }
 {
-    let n = s.len() / RECORD_BYTES;
-    let mut i: usize = 0;
-    while i < n {
-        if four_at(record_at(s, i), OWN) == h {
-            return i;
-        }
-        i += 1;
-    }
-    0
+    records(s).position(|r| four_at(r, OWN) == h).unwrap_or(0)
 }
 
 fn seat(s: &[u8], t: &[u8], h: u32) -> usize
@@ -199,11 +147,8 @@ fn above(s: &[u8], t: &[u8], field: usize, p: &mut [u8])
     requires { (length s.now / record_bytes ≤ most_records) × (length p.old ≡ 256) }
     ensures { p.new ≡ along (by_field (records s.now) t.now field) 0 (records s.now) p.old }
 {
-    let n = s.len() / RECORD_BYTES;
-    let mut i: usize = 0;
-    while i < n {
-        note(p, i, seat(s, t, four_at(record_at(s, i), field)), true);
-        i += 1;
+    for i in 0..count(s) {
+        p[i] = seat(s, t, four_at(record_at(s, i), field)) as u8;
     }
 }
 
@@ -212,19 +157,12 @@ fn below(s: &[u8], up: &[u8], over: &[u8], p: &mut [u8])
     requires { (length s.now / record_bytes ≤ most_records) × (length p.old ≡ 256) }
     ensures { p.new ≡ along (by_child up.now over.now) 0 (records s.now) p.old }
 {
-    let n = s.len() / RECORD_BYTES;
-    let mut i: usize = 0;
-    while i < n {
+    for i in 0..count(s) {
         let r = record_at(s, i);
         let k = byte_at(r, KIND);
+        let child = ((k == POLICY) | (k == KEY)) & (four_at(r, PARENT) != 0);
         note(p, size_at(up, i), i, k == KEY);
-        note(
-            p,
-            size_at(over, i),
-            i,
-            ((k == POLICY) | (k == KEY)) & (four_at(r, PARENT) != 0),
-        );
-        i += 1;
+        note(p, size_at(over, i), i, child);
     }
 }
 
@@ -232,33 +170,21 @@ fn is_sited_at(s: &[u8], m: usize, up: &[u8], over: &[u8], under: &[u8], i: usiz
     ensures { result ≡ test (sited_at (records s.now) m up.now over.now under.now i) }
 {
     let o = size_at(over, i);
-    let x = record_at(s, size_at(up, i));
-    let t = record_at(s, size_at(up, o));
-    let k = record_at(s, size_at(under, i));
-    let q = record_at(s, size_at(under, o));
-    is_near(
-        record_at(s, m),
-        x,
-        record_at(s, o),
-        t,
-        k,
-        q,
-        record_at(s, i),
-    )
+    let near = Neighbours {
+        counter: record_at(s, m),
+        session: record_at(s, size_at(up, i)),
+        parent: record_at(s, o),
+        home: record_at(s, size_at(up, o)),
+        child: record_at(s, size_at(under, i)),
+        fellow: record_at(s, size_at(under, o)),
+    };
+    is_near(near, record_at(s, i))
 }
 
 fn all_sited(s: &[u8], m: usize, up: &[u8], over: &[u8], under: &[u8]) -> bool
     ensures { result ≡ true → Shown (records s.now) }
 {
-    let n = s.len() / RECORD_BYTES;
-    let mut i: usize = 0;
-    while i < n {
-        if !is_sited_at(s, m, up, over, under, i) {
-            return false;
-        }
-        i += 1;
-    }
-    true
+    (0..count(s)).all(|i| is_sited_at(s, m, up, over, under, i))
 }
 
 fn is_sited(s: &[u8]) -> bool

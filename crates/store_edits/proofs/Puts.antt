@@ -1,19 +1,20 @@
 -- A record put at its place: the records are set there, and the rest stays. One change after another.
-use mathlib.Core.Bool.{true, false}
+use mathlib.Core.Bool.{true}
 use mathlib.Core.Path.{◌≡◌, refl, sym, ap, ◌∙◌}
-use mathlib.Core.List.{List, [], ◌∷◌, ◌++◌, append_assoc, append-nil}
-use Prim.Native.Nat.{ℕ, zero, suc, ◌+◌, ◌*◌, ◌-◌, ◌/◌, ◌≤◌, ◌<◌}
+use mathlib.Core.List.{List, [], ◌∷◌, ◌++◌, append_assoc}
+use Prim.Native.Nat.{ℕ, zero, suc, ◌+◌, ◌*◌, ◌-◌, ◌/◌, ◌%◌, ◌≤◌, ◌<◌}
 use native.Mathlib.Nat.{not-suc-le-zero, le_of_suc-le-suc}
-use native.Mathlib.Numerals.{add-one}
 use native.Mathlib.Omega.{arith}
 use borrow.Rule.Slice.PartMut.{put_mid}
+use Rattle.std.proofs.lemmas.List.Edits.{sets-eq}
+use Rattle.std.specs.Int.{w32, to_be_bytes}
 use lib.ListN.{length, get_or, take, drop, set, length-append, length-take, length-drop, get_or-eq_default}
-use lib.Seq.{drop-drop, take-add, take_at, drop_at, drop-append-add, length-take-le, take-length, take_all, take-suc-set, set_out, set-get_or}
-use Rattle.paper.specs.Bytes.{zeros_of}
+use lib.Seq.{drop-drop, take-add, take_at, drop_at, drop-append-add, length-take-le, set_out}
+use Rattle.paper.specs.Bytes.{enc2, enc4, over, zeros_of}
 use Rattle.paper.specs.Form.{Rec, Form, test, only}
 use Rattle.paper.specs.Records.{records_of, records, zeros}
 use Rattle.store_records.specs.View.{rest, Becomes}
-use Rattle.store_records.proofs.Views.{length-records, length-record, shown, becomes}
+use Rattle.store_records.proofs.Views.{length-records, shown, becomes}
 
 -- record i anew, as it comes back where it was lent as a part
 anew : List ℕ → ℕ → List ℕ → List ℕ
@@ -66,17 +67,6 @@ set_default f [] i a b = refl
 set_default f (r ∷ rs) zero a b = refl
 set_default f (r ∷ rs) (suc i) a b = ap (λ (t : List Rec). r ∷ t) (set_default f rs i a b)
 
--- bytes that become 0 one after another
-pub zeros_more : (r : List ℕ) (i : ℕ) → i < length r → take i r ≡ zeros_of i → take (i + 1) (set r i 0) ≡ zeros_of (i + 1)
-zeros_more r i h e = rw (add-one i, take-suc-set r i 0 h, e) (one_more i)
-  where
-    one_more : (n : ℕ) → zeros_of n ++ (0 ∷ []) ≡ zeros_of (suc n)
-    one_more zero = refl
-    one_more (suc n) = ap (λ (l : List ℕ). 0 ∷ l) (one_more n)
-
-pub zeros_all : (r₀ r : List ℕ) (i : ℕ) → length r ≡ length r₀ → i ≤ length r → length r ≤ i → take i r ≡ zeros_of i → r ≡ zeros_of (length r₀)
-zeros_all r₀ r i l p q e = let z : i ≡ length r₀ = omega arith in sym (take_all i r q) ∙ e ∙ rw z
-
 -- the part that was lent comes back with t in it
 pub put_mid_lem : (s : List ℕ) (i : ℕ) (r t : List ℕ) → i < length s / 256 → length r ≡ 256 → r ≡ t
     → Becomes (set (records s) i t) s (put_mid (256 * i) ((256 * i + 256) - 256 * i) s r)
@@ -101,18 +91,29 @@ module _ (s : List ℕ) (i : ℕ) where
   pub copy_in : i < length s / 256 → (p d : List ℕ) → p ≡ take ((256 * i + 256) - 256 * i) (drop (256 * i) s) → d ≡ p → d ≡ get_or (records s) i zeros
   copy_in h p d q e = e ∙ q ∙ shown s i h ∙ any_default (records s) i [] zeros (omega (arith, length-records s))
 
--- an edit at one place, and of those only that a statement is about
-pub edit_mid : (f : Rec → Rec) (s : List ℕ) (i : ℕ) (r : List ℕ) → i < length s / 256 → length r ≡ 256
-    → r ≡ f (take ((256 * i + 256) - 256 * i) (drop (256 * i) s))
-    → Becomes (set (records s) i (f (get_or (records s) i zeros))) s (put_mid (256 * i) ((256 * i + 256) - 256 * i) s r)
-edit_mid f s i r h l q = rw (set_default f (records s) i zeros [], ← shown s i h) (put_mid_lem s i r _ h l q)
-
+-- an edit at one place of those only that a statement is about
 module _ (φ : Rec → Form) (f : Rec → Rec) (s : List ℕ) (i : ℕ) where
   pub edit_at : (r t : List ℕ) → test (φ (get_or (records s) i [])) ≡ true → r ≡ f (get_or (records s) i zeros) → Becomes (set (records s) i r) s t
       → Becomes (set (records s) i (only φ f (get_or (records s) i []))) s t
   unfolding only
   edit_at r t h q w = rw (h, ← set_default f (records s) i zeros [], ← q) w
 
-  pub keep_at : test (φ (get_or (records s) i [])) ≡ false → Becomes (set (records s) i (only φ f (get_or (records s) i []))) s s
-  unfolding only
-  keep_at h = rw (h, set-get_or (records s) i []) (unchanged s)
+-- a part that was lent comes back with b in it
+pub over_part : (s b d : List ℕ) (k n : ℕ) → length b ≡ n → k + n ≤ length s → d ≡ b → put_mid k n s d ≡ over k b s
+unfolding over
+over_part s b d k n l h e = rw (e, sets-eq b s k (omega arith), l, drop-drop n k s, append_assoc)
+
+-- a number that is cut to two bytes or four has the same low bytes
+pub enc2-cut : (n : ℕ) → enc2 (n % 65536) ≡ enc2 n
+enc2-cut n =
+    let a : (n % 65536) / 256 % 256 ≡ n / 256 % 256 = omega arith in
+    let b : (n % 65536) % 256 ≡ n % 256 = omega arith in
+    rw (a, b)
+
+pub enc4-cut : (n : ℕ) → to_be_bytes w32 (n % 4294967296) ≡ enc4 n
+enc4-cut n =
+    let a : (n % 4294967296) / 16777216 % 256 ≡ n / 256 / 256 / 256 % 256 = omega arith in
+    let b : (n % 4294967296) / 65536 % 256 ≡ n / 256 / 256 % 256 = omega arith in
+    let d : (n % 4294967296) / 256 % 256 ≡ n / 256 % 256 = omega arith in
+    let e : (n % 4294967296) % 256 ≡ n % 256 = omega arith in
+    rw (a, b, d, e)

@@ -3,18 +3,17 @@
 
 #![tactic(auto)]
 
-ghost use Rattle.std.specs.Prelude.{◌≡◌, [], map, ◌+◌, ◌%◌, length, get_or, set};
+ghost use Rattle.std.specs.Prelude.{◌≡◌, map, length, get_or, set};
 ghost use Rattle.paper.specs.Limits.{record_bytes};
-ghost use Rattle.paper.specs.Bytes.{zeros_of};
-ghost use Rattle.paper.specs.Form.{only};
+ghost use Rattle.paper.specs.Form.{Rec, only};
 ghost use Rattle.paper.specs.Records.{records, is, bears, zeros, insert as inserted};
-ghost use Rattle.paper.specs.Pin.{clear, add_one};
+ghost use Rattle.paper.specs.Pin.{clear};
 ghost use Rattle.store_records.specs.View.{Becomes};
 ghost use Rattle.store_records.specs.Choices.{chosen};
 ghost use Rattle.store_edits.specs.Edits.{edited};
 
 use paper::RECORD_BYTES;
-use store_records::{Choice, find, is_chosen, record_at};
+use store_records::{Choice, find, is_chosen};
 
 // What becomes of a record: it is freed; the count at a byte becomes 0, or one more.
 #[derive(Clone, Copy)]
@@ -57,69 +56,49 @@ pub fn insert(s: &mut [u8], r: &[u8; 256])
     put(s, i, r);
 }
 
-fn one_more(b: u8) -> u8
-    ensures { result ≡ (b + 1) % 256 }
-{
-    if b == 255 {
-        return 0;
-    }
-    b + 1
+// A function on records, and how it is done to a record where it stands.
+pub trait Rewrite {
+    ghost makes: { Self → Rec → Rec };
+
+    fn rewrite(&self, r: &mut [u8; 256])
+        ensures { r.new ≡ makes self.now r.old };
 }
 
-// Every byte becomes 0.
-fn blank(r: &mut [u8])
-    ensures { r.new ≡ zeros_of (length r.old) }
-{
-    let mut k: usize = 0;
-    while k < r.len() {
-        r[k] = 0;
-        k += 1;
+impl Rewrite for Edit {
+    ghost makes = { edited };
+
+    fn rewrite(&self, r: &mut [u8; 256]) {
+        match *self {
+            Edit::Free => *r = [0u8; 256],
+            Edit::Clear(k) => r[usize::from(k)] = 0,
+            Edit::AddOne(k) => {
+                let i = usize::from(k);
+                r[i] = r[i].wrapping_add(1);
+            }
+        }
     }
 }
 
-// A record is edited where it stands.
-fn alter(r: &mut [u8], e: Edit)
+// It is done to one record if it is meant.
+fn rewrite_record<W: Rewrite>(r: &mut [u8], c: Choice, w: &W)
     requires { length r.old ≡ record_bytes }
-    ensures { r.new ≡ edited e r.old }
+    ensures { r.new ≡ only (chosen c) (W.makes w.now) r.old }
 {
-    match e {
-        Edit::Free => blank(r),
-        Edit::Clear(k) => {
-            let i = k as usize;
-            r[i] = 0;
-        }
-        Edit::AddOne(k) => {
-            let i = k as usize;
-            r[i] = one_more(r[i]);
+    if let Some(r) = r.as_mut_array::<256>() {
+        if is_chosen(r, c) {
+            w.rewrite(r);
         }
     }
 }
 
-// Record i is edited.
-fn edit_at(s: &mut [u8], i: usize, e: Edit)
-    ensures { Becomes (set (records s.old) i (edited e (get_or (records s.old) i zeros))) s.old s.new }
+// It is done to every record that is meant. The loop counts, since nothing is known of a slice that `chunks_mut` has lent.
+pub fn rewrite_chosen<W: Rewrite>(s: &mut [u8], c: Choice, w: &W)
+    ensures { Becomes (map (only (chosen c) (W.makes w.now)) (records s.old)) s.old s.new }
 {
-    let n = s.len() / RECORD_BYTES;
-    if i < n {
+    for i in 0..s.len() / RECORD_BYTES {
         let a = RECORD_BYTES * i;
         let z = a + RECORD_BYTES;
-        alter(&mut s[a..z], e);
-    }
-}
-
-// It is freed.
-pub fn free_at(s: &mut [u8], i: usize)
-    ensures { Becomes (set (records s.old) i zeros) s.old s.new }
-{
-    edit_at(s, i, Edit::Free);
-}
-
-// It is edited if it is meant.
-pub fn change_at(s: &mut [u8], i: usize, c: Choice, e: Edit)
-    ensures { Becomes (set (records s.old) i (only (chosen c) (edited e) (get_or (records s.old) i []))) s.old s.new }
-{
-    if is_chosen(record_at(s, i), c) {
-        edit_at(s, i, e);
+        rewrite_record(&mut s[a..z], c, w);
     }
 }
 
@@ -127,12 +106,7 @@ pub fn change_at(s: &mut [u8], i: usize, c: Choice, e: Edit)
 pub fn change(s: &mut [u8], c: Choice, e: Edit)
     ensures { Becomes (map (only (chosen c) (edited e)) (records s.old)) s.old s.new }
 {
-    let n = s.len() / RECORD_BYTES;
-    let mut i: usize = 0;
-    while i < n {
-        change_at(s, i, c, e);
-        i += 1;
-    }
+    rewrite_chosen(s, c, &e);
 }
 
 // A session with all its records is freed.
@@ -142,16 +116,9 @@ pub fn free_session(s: &mut [u8], h: u32)
     change(s, Choice::Bears(h), Edit::Free);
 }
 
-// The count at byte k of that record becomes 0: byte 2 of a key, byte 3 of a PUK.
+// The count at byte k of that record becomes 0: byte 2 of a key, byte 3 of a PUK. `change` with `Edit::AddOne` makes it one more.
 pub fn clear_count(s: &mut [u8], kind: u8, own: u32, session: u32, k: u8)
     ensures { Becomes (map (only (is kind own session) (clear k)) (records s.old)) s.old s.new }
 {
     change(s, Choice::That(kind, own, session), Edit::Clear(k));
-}
-
-// It becomes one more.
-pub fn add_count(s: &mut [u8], kind: u8, own: u32, session: u32, k: u8)
-    ensures { Becomes (map (only (is kind own session) (add_one k)) (records s.old)) s.old s.new }
-{
-    change(s, Choice::That(kind, own, session), Edit::AddOne(k));
 }

@@ -1,4 +1,4 @@
--- Laws of tests of every record and of every pair: what is left of one at a place and one place further.
+-- Laws of tests of every pair: what is left of one at a place and one place further; and of a test that every record passes.
 use mathlib.Core.Bool.{Bool, true, false}
 use mathlib.Core.Path.{◌≡◌, refl}
 use mathlib.Core.List.{List, [], ◌∷◌}
@@ -7,16 +7,6 @@ use lib.ListN.{length, get_or, drop}
 use Rattle.paper.specs.Form.{Rec, every, pairs}
 use Rattle.paper.specs.Records.{records}
 use Rattle.store_records.proofs.Views.{records_from, records_end}
-
-module _ (p : Rec → Bool) (s : List ℕ) (i : ℕ) where
-  pub every_stop : i < length s / 256 → p (get_or (records s) i []) ≡ false → every p (drop i (records s)) ≡ false
-  every_stop h t = rw (records_from s i h, t)
-
-  pub every_next : i < length s / 256 → p (get_or (records s) i []) ≡ true → every p (drop i (records s)) ≡ every p (drop (i + 1) (records s))
-  every_next h t = rw (records_from s i h, t)
-
-  pub every_end : length s / 256 ≤ i → every p (drop i (records s)) ≡ true
-  every_end h = rw (records_end s i h)
 
 module _ (p : Rec → Rec → Bool) (s : List ℕ) (i : ℕ) where
   pub pairs_stop : i < length s / 256 → every (p (get_or (records s) i [])) (drop (i + 1) (records s)) ≡ false → pairs p (drop i (records s)) ≡ false

@@ -1,10 +1,17 @@
 -- What reads past the end: a byte and a number there are 0, a part and a string are empty.
-use mathlib.Core.Path.{◌≡◌}
+use mathlib.Core.Path.{◌≡◌, refl, sym, ◌∙◌}
 use mathlib.Core.List.{List, []}
-use Prim.Native.Nat.{ℕ, ◌+◌, ◌≤◌}
+use Prim.Native.Nat.{ℕ, ◌+◌, ◌-◌, ◌<◌, ◌≤◌, min}
 use native.Mathlib.Omega.{arith}
-use lib.ListN.{length, get_or-eq_default, drop_of_length-le}
-use lib.Seq.{take-nil}
+use lib.ListN.{length, take, drop, get_or-eq_default, drop_of_length-le, length-drop}
+use mathlib.Core.Logic.{◌⊎◌, inl, inr}
+use Rattle.std.proofs.lemmas.List.{take_min}
+use lib.Seq.{take-nil, take_all}
+use denote.Ref.{Bor}
+use Rattle.std.specs.Slice.{IsItemAt, IsGetRangeResult}
+use Rattle.std.specs.declared.option.Option.{Option}
+use Rattle.std.specs.declared.option.Option.TheVariants.{Some, None}
+use Rattle.std.specs.Option.{unwrap_or, option_copied}
 use Rattle.paper.specs.Bytes.{byte, two, four, part, text_at, string_at}
 
 module _ (s : List ℕ) (k : ℕ) (h : length s ≤ k) where
@@ -32,3 +39,21 @@ module _ (s : List ℕ) (k : ℕ) (h : length s ≤ k) where
   pub string_past : string_at k s ≡ []
   unfolding string_at
   string_past = part_past s (k + 2) (omega arith) (two k s)
+
+-- what `get` finds, or else 0, is the byte; what it finds of a rest, or else nothing, is the rest
+pub byte_got : (s : List ℕ) (k : ℕ) (o : Option (Bor ℕ)) → IsItemAt s k o → unwrap_or (option_copied o) 0 ≡ byte k s
+unfolding byte
+byte_got s k None g = g.4 (omega arith) 0
+byte_got s k (Some x) g = g.4 (omega arith) 0
+
+pub rest_got : (s : List ℕ) (k : ℕ) (o : Option (Bor (List ℕ))) (d : Bor (List ℕ)) → IsGetRangeResult s k (length s) o → d.now ≡ [] → (unwrap_or o d).now ≡ drop k s
+rest_got s k None d g e = e ∙ sym (drop_of_length-le s (past g.0))
+  where
+    past : (length s < k) ⊎ (length s < length s) → length s ≤ k
+    past (inl h) = omega arith
+    past (inr h) = omega arith
+rest_got s k (Some x) d g e = g.0.2 ∙ take_all (length s - k) (drop k s) (omega (arith, length-drop k s))
+
+pub part_got : (s r : List ℕ) (k n m : ℕ) → r ≡ drop k s → m ≡ min n (length r) → take m r ≡ part k n s
+unfolding part
+part_got s r k n m e f = rw (f, take_min n r, e) refl

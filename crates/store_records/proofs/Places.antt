@@ -1,36 +1,20 @@
--- Laws of look-ups: what is left of one at a place and one place further, and that the first record of which a statement holds
--- stands at its place.
+-- Laws of look-ups: the first record of which a statement holds stands at its place.
 use mathlib.Core.Bool.{Bool, true, false, cond, ◌||◌}
 use mathlib.Core.Path.{◌≡◌, refl, sym, ap, ◌∙◌}
 use mathlib.Core.List.{List, [], ◌∷◌}
 use Prim.Native.Nat.compare
-use Prim.Native.Nat.{ℕ, suc, ◌+◌, ◌/◌, ◌≤◌, ◌<◌}
+use Prim.Native.Nat.{ℕ, suc}
 use native.Mathlib.Omega.{arith}
 use borrow.Author.Tests.{lt-ltb}
 use lib.Dec.{ltb}
-use lib.ListN.{length, get_or, drop, set}
+use lib.ListN.{length, get_or, set}
 use Rattle.paper.specs.Form.{Rec, Form, say, test, some, seek}
-use Rattle.paper.specs.Records.{records, is_free, insert}
+use Rattle.paper.specs.Records.{is_free, insert}
 use Rattle.store_records.specs.View.{index}
-use Rattle.store_records.proofs.Views.{records_from, records_end}
 
 -- what a test of a record that was shown says of the record
 pub told : (φ : Rec → Form) {x y : Rec} {b t : Bool} → x ≡ y → b ≡ test (φ x) → b ≡ t → test (φ y) ≡ t
 told φ e f g = rw (← e) (sym f ∙ g)
-
-module _ (φ : Rec → Form) (s : List ℕ) (i : ℕ) where
-  pub index_here : i < length s / 256 → test (φ (get_or (records s) i [])) ≡ true → i + index φ (drop i (records s)) ≡ i
-  unfolding index
-  index_here h t = rw (records_from s i h, t) (omega arith)
-
-  pub index_next : i < length s / 256 → test (φ (get_or (records s) i [])) ≡ false
-      → i + index φ (drop i (records s)) ≡ (i + 1) + index φ (drop (i + 1) (records s))
-  unfolding index
-  index_next h t = rw (records_from s i h, t) (omega arith)
-
-  pub index_end : length s / 256 ≤ i → i + index φ (drop i (records s)) ≡ i
-  unfolding index
-  index_end h = rw (records_end s i h) (omega arith)
 
 module _ (φ : Rec → Form) where
   pub seek-index : (rs : List Rec) → seek φ rs ≡ get_or rs (index φ rs) []

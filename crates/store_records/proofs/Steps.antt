@@ -1,7 +1,7 @@
--- One byte more of a comparison and of a test of every byte: what is left of it at a place and one place further.
+-- The comparison of two slices, and one byte more of a test of every byte: what is left of it at a place and one place further.
 use mathlib.Core.Bool.{Bool, ◌&&◌, and_assoc, and-true}
-use mathlib.Core.Path.{◌≡◌, refl, sym}
-use mathlib.Core.List.{List}
+use mathlib.Core.Path.{◌≡◌, refl, sym, ap}
+use mathlib.Core.List.{List, [], ◌∷◌}
 use Prim.Native.Nat.{ℕ, zero, suc, ◌+◌, ◌≤◌, ◌<◌}
 use native.Mathlib.Numerals.{add-one}
 use native.Mathlib.Omega.{arith}
@@ -9,14 +9,18 @@ use borrow.Author.Tests.{le-leb, lt-leb, ne_eqb}
 use lib.Bits.{bit_or, or_add_and, and_le_l, and_le_r}
 use lib.Dec.{eqb}
 use lib.ListN.{length, get_or, drop, drop_of_length-le}
+use lib.Pointwise.{pointwise}
 use lib.Seq.{drop-cons}
 use Rattle.hmac.specs.Same.{same}
 use Rattle.paper.specs.Bytes.{within, all_within}
 
-pub same_step : (a b : List ℕ) (i : ℕ) → i < length a → i < length b
-    → same (drop i a) (drop i b) ≡ eqb (get_or a i 0) (get_or b i 0) && same (drop (i + 1) a) (drop (i + 1) b)
+-- the library's comparison of two slices is `same`
+pub pointwise-same : (a b : List ℕ) → pointwise eqb a b ≡ same a b
 unfolding same
-same_step a b i ha hb = rw (drop-cons a i 0 ha, drop-cons b i 0 hb, add-one i)
+pointwise-same [] [] = refl
+pointwise-same [] (y ∷ ys) = refl
+pointwise-same (x ∷ xs) [] = refl
+pointwise-same (x ∷ xs) (y ∷ ys) = ap (λ b. eqb x y && b) (pointwise-same xs ys)
 
 within_step : (lo hi : ℕ) (s : List ℕ) (i : ℕ) → i < length s
     → all_within lo hi (drop i s) ≡ within lo hi (get_or s i 0) && all_within lo hi (drop (i + 1) s)

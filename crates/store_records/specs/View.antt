@@ -1,5 +1,7 @@
 -- A lent store as its records: the place of a record, and what its bytes are once its records are others.
 use Rattle.std.specs.Prelude.{cond, ◌≡◌, List, [], ◌∷◌, ◌++◌, ℕ, suc, ◌*◌, ◌/◌, length, drop}
+use Rattle.std.specs.declared.slice.ChunksExact.{ChunksExact}
+use Rattle.std.specs.Slice.Iter.{chunks_exact_rest, chunks_exact_size}
 use Rattle.paper.specs.Limits.{record_bytes}
 use Rattle.paper.specs.Form.{Rec, Form, test}
 use Rattle.paper.specs.Records.{records, joined}
@@ -20,3 +22,7 @@ remade rs s = joined rs ++ rest s
 pub record Becomes (rs : List Rec) (s t : List ℕ) : Type 0 where
   pub bytes : t ≡ remade rs s
   pub view : records t ≡ rs
+
+-- An iterator that gives the records of the store s, from the first to the last: 256 bytes at a time, with nothing taken yet.
+abbrev pub Shows : ChunksExact ℕ → List ℕ → Type 0
+Shows it s = (chunks_exact_rest it ≡ s) × (chunks_exact_size it ≡ record_bytes)

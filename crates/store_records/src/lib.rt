@@ -10,7 +10,7 @@ ghost use Rattle.paper.specs.Bytes.{byte, two, four, part, string_at, behind, te
 ghost use Rattle.paper.specs.Form.{test, ◌equals◌, some, seek};
 ghost use Rattle.paper.specs.Records.{records, is, bears as bears_it, is_free, at, session_of};
 ghost use Rattle.paper.specs.Closing.{held};
-ghost use Rattle.store_records.specs.View.{index};
+ghost use Rattle.store_records.specs.View.{index, Shows};
 ghost use Rattle.store_records.specs.Choices.{chosen};
 ghost use Rattle.paper.specs.Posting.{target as target_of, home as home_of, is_target};
 ghost use Rattle.paper.specs.Users.{policy_of, puk_of};
@@ -19,29 +19,27 @@ use paper::{
     CLOSED, FREE, HANDLE_STEP, HOME, KEY, KIND, OWN, PARENT, PENDING, POLICY, PUK, RECORD_BYTES,
     RETRY_LIMIT, SESSION, STALE, STATE,
 };
+use std::slice::ChunksExact;
 
 // ---- bytes, numbers and parts of any slice
 
 fn join2(a: u8, b: u8) -> usize
     ensures { (result ≡ a * 256 + b) × (result ≤ 65535) }
 {
-    (a as usize) * 256 + (b as usize)
+    u16::from_be_bytes([a, b]) as usize
 }
 
 fn join4(a: u8, b: u8, c: u8, d: u8) -> u32
     ensures { result ≡ ((a * 256 + b) * 256 + c) * 256 + d }
 {
-    (((a as u32) * 256 + (b as u32)) * 256 + (c as u32)) * 256 + (d as u32)
+    u32::from_be_bytes([a, b, c, d])
 }
 
 // The byte at place k.
 pub fn byte_at(s: &[u8], k: usize) -> u8
     ensures { result ≡ byte k s.now }
 {
-    if k < s.len() {
-        return s[k];
-    }
-    0
+    s.get(k).copied().unwrap_or(0)
 }
 
 // The same as a length or a place.
@@ -84,13 +82,8 @@ pub fn four_at(s: &[u8], k: usize) -> u32
 pub fn part_of<'a>(s: &'a [u8], k: usize, n: usize) -> &'a [u8]
     ensures { result.now ≡ part k n s.now }
 {
-    if s.len() < k {
-        return &s[0..0];
-    }
-    if s.len() - k < n {
-        return &s[k..];
-    }
-    &s[k..k + n]
+    let rest = s.get(k..).unwrap_or(&[]);
+    &rest[..n.min(rest.len())]
 }
 
 // The string of a record whose length byte stands at place k.
@@ -134,10 +127,8 @@ pub fn all_within(s: &[u8], lo: u8, hi: u8) -> bool
     ensures { result ≡ all_within lo hi s.now }
 {
     let mut ok = true;
-    let mut i: usize = 0;
-    while i < s.len() {
-        ok = ok & is_within(s[i], lo, hi);
-        i += 1;
+    for b in s {
+        ok &= is_within(*b, lo, hi);
     }
     ok
 }
@@ -146,11 +137,9 @@ pub fn all_within(s: &[u8], lo: u8, hi: u8) -> bool
 pub fn is_blank(s: &[u8]) -> bool
     ensures { result ≡ all_within 0 0 s.now }
 {
-    let mut seen: u8 = 0;
-    let mut i: usize = 0;
-    while i < s.len() {
-        seen = seen | s[i];
-        i += 1;
+    let mut seen = 0;
+    for b in s {
+        seen |= *b;
     }
     seen == 0
 }
@@ -159,23 +148,14 @@ pub fn is_blank(s: &[u8]) -> bool
 pub fn same(a: &[u8], b: &[u8]) -> bool
     ensures { result ≡ same_bytes a.now b.now }
 {
-    if a.len() != b.len() {
-        return false;
-    }
-    let mut i: usize = 0;
-    while i < a.len() {
-        if a[i] != b[i] {
-            return false;
-        }
-        i += 1;
-    }
-    true
+    a == b
 }
 
 // ---- records: `record_at` alone shows where one stands; every test is of one record, and a look-up goes from the first to the last
 
 // Which records are meant: those of a kind; by kind, own handle and session; of these such as have a retry limit; by session; by
-// kind and session; by kind, parent and session; a session's unstale pendings on a key; free places.
+// kind and session; by kind, parent and session; a session's unstale pendings on a key; free places. A value
+// and no closure: method_users keeps one in the step that a call comes to.
 #[derive(Clone, Copy)]
 pub enum Choice {
     Kind(u8),
@@ -193,6 +173,13 @@ pub fn count(s: &[u8]) -> usize
     ensures { result ≡ length (records s.now) }
 {
     s.len() / RECORD_BYTES
+}
+
+// The records from the first to the last, each a part of the store.
+pub fn records<'a>(s: &'a [u8]) -> ChunksExact<'a, u8>
+    ensures { Shows result s.now }
+{
+    s.chunks_exact(RECORD_BYTES)
 }
 
 // Record i as a part of the store.
@@ -307,22 +294,14 @@ pub fn is_chosen(r: &[u8], c: Choice) -> bool
 pub fn find(s: &[u8], c: Choice) -> usize
     ensures { result ≡ index (chosen c) (records s.now) }
 {
-    let n = s.len() / RECORD_BYTES;
-    let mut at: usize = 0;
-    while at < n {
-        if is_chosen(record_at(s, at), c) {
-            return at;
-        }
-        at += 1;
-    }
-    at
+    records(s).position(|r| is_chosen(r, c)).unwrap_or(count(s))
 }
 
 // Whether there is one.
 pub fn has(s: &[u8], c: Choice) -> bool
     ensures { result ≡ test (some (records s.now) (chosen c)) }
 {
-    find(s, c) < count(s)
+    records(s).any(|r| is_chosen(r, c))
 }
 
 // That record itself, or the empty one.

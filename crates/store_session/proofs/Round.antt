@@ -8,7 +8,7 @@ use native.Mathlib.Omega.{arith}
 use borrow.Author.Tests.{eqb-true, leb-true}
 use lib.Dec.{eqb, leb}
 use lib.ListN.{length, take, drop, length-take, length-drop}
-use lib.Seq.{drop-cons, drop-drop, take-add, take_all, take-length, take-take}
+use lib.Seq.{drop-cons, drop-drop, take-add, take_all, take-take}
 use Rattle.paper.specs.Bytes.{byte, two, four, part, text_at, enc2, enc4, zeros_of, within, all_within}
 use Rattle.paper.specs.Form.{Rec}
 use Rattle.paper.specs.Records.{kind, SESSION, by_value, client_id}
@@ -178,21 +178,16 @@ module _ (r : Rec) (small : (i : ℕ) → byte i r < 256) where
       let b = blanks r f in
       ap laid (join r 0 16 240 (front-part l s b.0) (join r 16 98 142 (names-part l) (back-part l b.1)) ∙ all_of_it l) ∙ laid_whole r l
 
-pub part_short : (r : List ℕ) (k n : ℕ) → length (part k n r) ≤ n
+-- a part is at most as long as it was to be
+pub short : (r v : List ℕ) (k n : ℕ) → v ≡ part k n r → length v ≤ n
 unfolding part
-part_short r k n = simp length-take (omega arith)
+short r v k n e = rw e (simp length-take (omega arith))
 
 -- a part, copied into 32 zeros
 pub block_copied : (r v d : List ℕ) (k : ℕ) → v ≡ part k 32 r → d ≡ v ++ drop (length v) (zeros_of 32) → d ≡ block k r
 unfolding block
 block_copied r v d k e f = f ∙ rw e
 
--- fields written one after another
-pub ids-flat : (w a s b c : List ℕ) → (((w ++ a) ++ s) ++ b) ++ c ≡ w ++ (a ++ (s ++ (b ++ (c ++ []))))
-ids-flat w a s b c = simp (append_assoc, append-nil)
-
-pub names-flat : (w a s b c k : List ℕ) → (w ++ (a ++ (s ++ (b ++ (c ++ []))))) ++ k ≡ w ++ (a ++ (s ++ (b ++ (c ++ (k ++ [])))))
-names-flat w a s b c k = simp (append_assoc, append-nil)
-
-pub back-flat : (w a b c d e f g : List ℕ) → ((((((w ++ a) ++ b) ++ c) ++ d) ++ e) ++ f) ++ g ≡ w ++ (a ++ (b ++ (c ++ (d ++ (e ++ (f ++ (g ++ [])))))))
-back-flat w a b c d e f g = simp (append_assoc, append-nil)
+-- the IDs, the key and what is behind them, one after another
+pub names-flat : (a s b c k z : List ℕ) → a ++ (s ++ (b ++ (c ++ (k ++ z)))) ≡ (a ++ (s ++ (b ++ (c ++ (k ++ []))))) ++ z
+names-flat a s b c k z = simp (append_assoc, append-nil)

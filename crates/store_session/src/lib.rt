@@ -2,10 +2,9 @@
 
 #![tactic(auto)]
 
-ghost use Rattle.std.specs.Prelude.{◌≡◌, List, ◌++◌, ℕ};
+ghost use Rattle.std.specs.Prelude.{◌≡◌};
 ghost use Rattle.paper.specs.Bytes.{two};
-ghost use Rattle.store_draft.specs.Drafts.{Drafts};
-ghost use Rattle.store_session.specs.Decoded.{block, front as front_of, ids as ids_of, names as names_of, back as back_of, decoded, encoded};
+ghost use Rattle.store_session.specs.Decoded.{block, decoded, encoded};
 
 use paper::{
     CLIENT_ID, CLIENT_TIME, HANDLE_BYTES, HOME, KEY_LIMIT, KEY_MANAGEMENT, LIFE_TIME, MAC_COUNTER,
@@ -19,7 +18,8 @@ const NO_PARENT: u8 = HANDLE_BYTES as u8;
 
 const BEHIND: u8 = (RECORD_BYTES - SESSION_END) as u8;
 
-// The fields in the table's order, from byte 1 on. An ID is its length and 32 bytes, zero behind its length.
+// The fields in the table's order, from byte 1 on. An ID is its length and 32 bytes, zero behind its length:
+// fixed memory, and the record byte for byte.
 #[derive(Clone, Copy)]
 pub struct Session {
     pub state: u8,
@@ -68,10 +68,10 @@ pub fn decode(r: &[u8]) -> Session
         own: four_at(r, OWN),
         session: four_at(r, HOME),
         serverlength: byte_at(r, paper::ID),
-        server: server,
+        server,
         clientlength: byte_at(r, CLIENT_ID),
-        client: client,
-        key: key,
+        client,
+        key,
         counter: number_at(r, MAC_COUNTER),
         limit: number_at(r, KEY_LIMIT),
         privacy: byte_at(r, PRIVACY),
@@ -81,48 +81,28 @@ pub fn decode(r: &[u8]) -> Session
     }
 }
 
-fn front(x: Session) -> Draft
-    ensures { Drafts result (front_of x) }
-{
-    let a = store_draft::byte(
-        store_draft::byte(store_draft::start(), paper::SESSION),
-        x.state,
-    );
-    let b = store_draft::four(store_draft::two(a, x.next as usize), x.own as u64);
-    store_draft::zeros(store_draft::four(b, x.session as u64), NO_PARENT)
-}
-
-fn ids(d: Draft, x: Session) -> Draft
-    ensures { (w : List ℕ) → Drafts d w → Drafts result (w ++ ids_of x) }
-{
-    let server = x.server;
-    let client = x.client;
-    let a = store_draft::bytes(store_draft::byte(d, x.serverlength), &server);
-    store_draft::bytes(store_draft::byte(a, x.clientlength), &client)
-}
-
-fn names(d: Draft, x: Session) -> Draft
-    ensures { (w : List ℕ) → Drafts d w → Drafts result (w ++ names_of x) }
-{
-    let key = x.key;
-    store_draft::bytes(ids(d, x), &key)
-}
-
-fn back(d: Draft, x: Session) -> Draft
-    ensures { (w : List ℕ) → Drafts d w → Drafts result (w ++ back_of x) }
-{
-    let time = x.time as u64;
-    let life = x.life as u64;
-    let counter = x.counter as usize;
-    let limit = x.limit as usize;
-    let a = store_draft::two(store_draft::two(d, counter), limit);
-    let b = store_draft::byte(store_draft::byte(a, x.privacy), x.managed);
-    store_draft::zeros(store_draft::four(store_draft::four(b, time), life), BEHIND)
-}
-
 // The record that holds a session.
 pub fn encode(x: Session) -> [u8; 256]
     ensures { result ≡ encoded x }
 {
-    store_draft::finish(back(names(front(x), x), x))
+    Draft::start()
+        .byte(paper::SESSION)
+        .byte(x.state)
+        .two(usize::from(x.next))
+        .four(u64::from(x.own))
+        .four(u64::from(x.session))
+        .zeros(NO_PARENT)
+        .byte(x.serverlength)
+        .bytes(&x.server)
+        .byte(x.clientlength)
+        .bytes(&x.client)
+        .bytes(&x.key)
+        .two(usize::from(x.counter))
+        .two(usize::from(x.limit))
+        .byte(x.privacy)
+        .byte(x.managed)
+        .four(u64::from(x.time))
+        .four(u64::from(x.life))
+        .zeros(BEHIND)
+        .finish()
 }

@@ -1,5 +1,5 @@
 -- The session of a call in a sound store: it is open, so it is there; it obeys the table, so its decoded value tells what its record does.
-use mathlib.Core.Path.{◌≡◌, refl, sym, ◌∙◌}
+use mathlib.Core.Path.{◌≡◌, refl, sym}
 use mathlib.Core.Bool.{true}
 use mathlib.Core.List.{List, []}
 use Prim.Native.Nat.{ℕ, ◌≤◌}
@@ -14,7 +14,7 @@ use Rattle.paper.specs.Table.{obeys_table, is_text, printable}
 use Rattle.paper.specs.Sound.{sound}
 use Rattle.paper.specs.Calls.{subject, is_session_call}
 use Rattle.paper.specs.Answer.{is_open, early_faults}
-use Rattle.paper.proofs.Forms.{both, cases, Clear}
+use Rattle.paper.proofs.Forms.{cases, Clear}
 use Rattle.laws.proofs.Bytes.{split}
 use Rattle.laws.proofs.Facts.{reflect}
 use Rattle.laws.proofs.Fields.{tabled_field, tabled-length}
@@ -28,8 +28,8 @@ use Rattle.token.specs.Early.{place_of, Passed, Open, Found}
 use Rattle.token.proofs.Steps.{tested}
 
 -- none of the early refusals holds
-pub passed : (s c : List ℕ) {n : ℕ} → n ≡ status (early_faults s c) → n ≡ 0 → Passed s c
-passed s c e z = go (cleared (early_faults s c) refl (sym e ∙ z))
+pub passed : (s c : List ℕ) → 0 ≡ status (early_faults s c) → Passed s c
+passed s c z = go (cleared (early_faults s c) refl (sym z))
   where
     go : Clear (early_faults s c) → Passed s c
     go w =

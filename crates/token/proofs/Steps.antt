@@ -1,18 +1,18 @@
 -- Which method a step is, what a sound store grants it, and the answer put together.
 use mathlib.Core.Path.{◌≡◌, refl, sym, ap, ◌∙◌}
 use mathlib.Core.Bool.{true, false}
-use mathlib.Core.List.{List, [], ◌∷◌, map, append_assoc}
-use Prim.Native.Nat.{ℕ, ◌-◌, ◌/◌, ◌%◌, ◌≤◌, ◌<◌}
+use mathlib.Core.List.{List, ◌∷◌}
+use Prim.Native.Nat.{ℕ, zero, suc, ◌+◌, ◌*◌, ◌-◌, ◌/◌, ◌%◌, ◌≤◌, ◌<◌}
 use native.Mathlib.Omega.{arith}
 use borrow.Author.Tests.{eqb-true, ne_eqb, leb-true, le-leb, lt-ltb, le-ltb}
 use lib.Dec.{eqb, leb}
-use lib.ListN.{length, set, replicate}
-use lib.Seq.{sets-eq, drop-drop}
-use borrow.Rule.Slice.PartMut.{put_mid}
+use lib.ListN.{length, drop, set, replicate, length-replicate}
+use Rattle.std.specs.Int.{w64, to_be_bytes}
+use Rattle.std.proofs.lemmas.List.{take-replicate, drop-replicate}
 use Rattle.paper.specs.Limits.{record_bytes}
-use Rattle.paper.specs.Bytes.{enc4, over, within}
+use Rattle.paper.specs.Bytes.{enc4, over, within, zeros_of}
 use Rattle.paper.specs.Form.{Rec, test, Fact}
-use Rattle.paper.specs.Records.{SessionValue, records, block, zeros}
+use Rattle.paper.specs.Records.{SessionValue, records_of, records, block, zeros}
 use Rattle.paper.specs.Sound.{length_fits, Sound, sound}
 use Rattle.paper.specs.Calls.{method, subject, is_session_call, post_in}
 use Rattle.paper.specs.Act.{Out, Act, perform, itself}
@@ -24,11 +24,13 @@ use Rattle.paper.specs.Answer.{session_act, session_step, user_step, step, early
 use Rattle.paper.proofs.Forms.{both, contrary}
 use Rattle.laws.proofs.Bytes.{split}
 use Rattle.store_records.specs.View.{Becomes}
-use Rattle.store_records.proofs.Views.{length-records, whole, after}
+use Rattle.store_records.proofs.Views.{length-records, whole}
+use Rattle.paper.specs.Refusal.{number}
+use Rattle.paper.specs.declared.Refusal.{Refusal}
 use Rattle.method_acts.specs.Rungs.{status}
 use Rattle.method_acts.specs.declared.Reply.{Reply}
 use Rattle.method_acts.specs.Answers.{Answers, bare_reply}
-use Rattle.method_acts.proofs.Climbs.{settle-done, settle_not}
+use Rattle.method_acts.proofs.Climbs.{told_not, told-done}
 use Rattle.method_acts.specs.Range.{in_range}
 use Rattle.token.specs.Early.{making}
 use Rattle.token.specs.Said.{known, made}
@@ -147,15 +149,15 @@ module _ (c chip : List ℕ) (rs : List Rec) where
 
 -- ---- before the method
 
-module _ (s c chip : List ℕ) {n : ℕ} (e : n ≡ status (early_faults s c)) where
-  pub judged_not : (n ≡ 0 → ⊥) → known (bare_reply n) s ≡ judged s c chip
+module _ (s c chip : List ℕ) where
+  pub judged_not : (e : Refusal) → number e ≡ status (early_faults s c) → known (bare_reply (number e)) s ≡ judged s c chip
   unfolding judged
-  judged_not h = rw (settle_not (early_faults s c) _ (told (step c chip (records s))) refl (λ z. h (e ∙ z)), e)
+  judged_not e f = rw (told_not (early_faults s c) _ (told (step c chip (records s))) refl e f)
 
-  pub judged-done : {r : Reply} {t : List ℕ} → sound s ≡ true → n ≡ 0 → Answers (step c chip (records s)) r s t → known r t ≡ judged s c chip
+  pub judged-done : {r : Reply} {t : List ℕ} → sound s ≡ true → 0 ≡ status (early_faults s c) → Answers (step c chip (records s)) r s t → known r t ≡ judged s c chip
   unfolding judged
   judged-done {r} {t} h z a =
-      rw (settle-done (early_faults s c) _ (told (step c chip (records s))) refl (sym e ∙ z), a.reply, whole (step c chip (records s)).store s t (even s (fitting s h)) a.store)
+      rw (told-done (early_faults s c) _ (told (step c chip (records s))) refl z, a.reply, whole (step c chip (records s)).store s t (even s (fitting s h)) a.store)
 
 -- ---- the reply, and format
 
@@ -169,28 +171,38 @@ module _ (s c chip b : List ℕ) where
   unfolding answer written over
   answered h e f = rw (le-ltb (length b) 37 h, ← e, f)
 
--- a part of the reply that was lent comes back with the attestation in it
-pub pasted : (b a d : List ℕ) → length a ≡ 32 → 37 ≤ length b → d ≡ a → put_mid 5 32 b d ≡ over 5 a b
-unfolding over
-pasted b a d l h e = rw (e, sets-eq a b 5 (omega arith), l, drop-drop 32 5 b, append_assoc)
+-- the low four bytes of a handle
+pub low_four : (h : ℕ) → drop 4 (to_be_bytes w64 h) ≡ enc4 h
+low_four h =
+    let a : h / 16777216 % 256 ≡ h / 256 / 256 / 256 % 256 = omega arith in
+    let b : h / 65536 % 256 ≡ h / 256 / 256 % 256 = omega arith in
+    rw (a, b)
 
-all_free : (rs : List Rec) → map (λ r. zeros) rs ≡ replicate (length rs) zeros
-all_free [] = refl
-all_free (r ∷ rs) = ap (λ (t : List Rec). zeros ∷ t) (all_free rs)
+-- a store of zeros, and the counter put in its first place
+blank_of : (n : ℕ) → records_of n (zeros_of (256 * n)) ≡ replicate n zeros
+unfolding records_of zeros
+blank_of zero = refl
+blank_of (suc n) =
+    let e : 256 * suc n ≡ 256 + 256 * n = omega arith in
+    let d : 256 + 256 * n - 256 ≡ 256 * n = omega arith in
+    rw (e, take-replicate {X = ℕ} 256 (256 + 256 * n) 0 (omega arith), drop-replicate {X = ℕ} 256 (256 + 256 * n) 0, d, blank_of n)
 
-first_anew : (x : Rec) (rs : List Rec) → 1 ≤ length rs → set (map (λ r. zeros) rs) 0 x ≡ x ∷ replicate (length rs - 1) zeros
-first_anew x [] h = absurd (omega arith)
-first_anew x (r ∷ rs) h = let e : length (r ∷ rs) - 1 ≡ length rs = omega arith in rw e (ap (λ (t : List Rec). x ∷ t) (all_free rs))
+blank : (s : List ℕ) → length s % 256 ≡ 0 → records (zeros_of (length s)) ≡ replicate (length s / 256) zeros
+unfolding records
+blank s h = let e : length s ≡ 256 * (length s / 256) = omega arith in rw (length-replicate {A = ℕ} (length s) 0) (ap (λ (n : ℕ). records_of (length s / 256) (zeros_of n)) e ∙ blank_of (length s / 256))
+
+first_anew : (x : Rec) (n : ℕ) → 1 ≤ n → set (replicate n zeros) 0 x ≡ x ∷ replicate (n - 1) zeros
+first_anew x zero h = absurd (omega arith)
+first_anew x (suc n) h = let e : suc n - 1 ≡ n = omega arith in rw e
 
 module _ (s : List ℕ) where
   pub formatted_not : length_fits s ≡ false → made 19 s ≡ formatted s
   unfolding formatted
   formatted_not e = rw e
 
-  pub formatted-done : {u t : List ℕ} → length_fits s ≡ true → Becomes (map (λ r. zeros) (records s)) s u → Becomes (set (records u) 0 fresh_counter) u t
-      → made 0 t ≡ formatted s
+  pub formatted-done : {u t : List ℕ} → length_fits s ≡ true → u ≡ zeros_of (length s) → Becomes (set (records u) 0 fresh_counter) u t → made 0 t ≡ formatted s
   unfolding formatted
-  formatted-done {u} {t} e a b =
+  formatted-done {u} {t} e z b =
       let h = not_few s e in
-      let k : 1 ≤ length (records s) = rw (length-records s) (omega arith) in
-      rw (e, whole _ s t (even s e) (after a b), a.view, first_anew fresh_counter (records s) k, length-records s)
+      let k : length u ≡ length s = rw z (length-replicate {A = ℕ} (length s) 0) in
+      rw (e, whole _ u t (rw k (even s e)) b, z, blank s (even s e), first_anew fresh_counter (length s / 256) (omega arith))

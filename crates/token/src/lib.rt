@@ -3,23 +3,22 @@
 
 #![tactic(auto)]
 
-ghost use Rattle.std.specs.Prelude.{◌≡◌, true, ◌∷◌, map, ◌≤◌, length};
+ghost use Rattle.std.specs.Prelude.{◌≡◌, true, ◌∷◌, ◌≤◌, length};
 ghost use Rattle.paper.specs.Bytes.{enc4, over};
 ghost use Rattle.paper.specs.Calls.{method};
-ghost use Rattle.paper.specs.Records.{records, zeros};
+ghost use Rattle.paper.specs.Records.{records};
 ghost use Rattle.paper.specs.Sound.{sound as is_sound};
 ghost use Rattle.paper.specs.Answer.{early_faults, session_step, user_step, step as step_of, judged, answer, fresh_counter, formatted};
-ghost use Rattle.store_records.specs.View.{Becomes};
 ghost use Rattle.store_session.specs.Decoded.{value_of};
-ghost use Rattle.method_acts.specs.Rungs.{status};
+ghost use Rattle.method_acts.specs.Rungs.{number_of, status};
 ghost use Rattle.method_acts.specs.Answers.{Answers, bare_reply};
 ghost use Rattle.token.specs.Said.{known, told, made};
 ghost use Rattle.token.specs.Early.{place_of, Passed, Open, Found, making};
 
-use method_acts::{Reply, bare, fault};
+use method_acts::{Reply, bare, refuse_if, refused};
 use paper::{
-    DONE, METHOD, NO_FORM, NOT_OPEN, RECORD_BYTES, REPLY_ATTESTATION, REPLY_BYTES, REPLY_HANDLE,
-    REPLY_STATUS, SHORT_REPLY, SUBJECT, UNSOUND,
+    DONE, METHOD, REPLY_ATTESTATION, REPLY_BYTES, REPLY_HANDLE, REPLY_STATUS, Refusal, SHORT_REPLY,
+    SUBJECT, UNSOUND,
 };
 use store_records::{Choice, byte_at, four_at, record_at};
 use store_session::Session;
@@ -37,18 +36,6 @@ fn counter() -> [u8; 256]
     r
 }
 
-// Every record is freed.
-fn clear(s: &mut [u8])
-    ensures { Becomes (map (λ r. zeros) (records s.old)) s.old s.new }
-{
-    let n = s.len() / RECORD_BYTES;
-    let mut i: usize = 0;
-    while i < n {
-        store_edits::free_at(s, i);
-        i += 1;
-    }
-}
-
 // The counter in the first place and all else free; or 19, where no store has that length.
 pub fn format(store: &mut [u8]) -> u8
     ensures { made result store.new ≡ formatted store.old }
@@ -56,7 +43,7 @@ pub fn format(store: &mut [u8]) -> u8
     if !sound_store::length_fits(store) {
         return UNSOUND;
     }
-    clear(store);
+    store.fill(0);
     let r = counter();
     store_edits::put(store, 0, &r);
     DONE
@@ -71,38 +58,35 @@ fn place(s: &[u8], c: &[u8]) -> usize
 }
 
 // What is asked before the method: a sound store, a method and a length that there are, an open session.
-fn early(s: &[u8], i: usize, c: &[u8]) -> u8
+#[tactic(auto, unfolding(method_acts::specs::Rungs::status))]
+fn early(s: &[u8], i: usize, c: &[u8]) -> Result<(), Refusal>
     requires { i ≡ place_of s.now c.now }
-    ensures { result ≡ status (early_faults s.now c.now) }
+    ensures { number_of result ≡ status (early_faults s.now c.now) }
 {
     let closed = !(byte_at(record_at(s, i), paper::STATE) == paper::OPEN);
-    let n1 = fault(0, !sound_store::is_sound(s), UNSOUND);
-    let n2 = fault(n1, !call_form::is_known(c), NO_FORM);
-    fault(n2, call_form::is_session_call(c) & closed, NOT_OPEN)
+    refuse_if(!sound_store::is_sound(s), Refusal::Unsound)?;
+    refuse_if(!call_form::is_known(c), Refusal::NoForm)?;
+    refuse_if(call_form::is_session_call(c) & closed, Refusal::NotOpen)?;
+    Ok(())
 }
 
 // Whether a method makes something in a session and has large drafts: 8, 9, 10 and 12.
 fn is_making(m: u8) -> bool
     ensures { result ≡ making m }
 {
-    (m == 8) | ((m == 9) | ((m == 10) | (m == 12)))
+    matches!(m, 8 | 9 | 10 | 12)
 }
 
 fn make_step<'a>(s: &mut [u8], x: Session, c: &'a [u8], chip: &'a [u8]) -> Reply
     requires { Found s.old c.now (value_of x) × (making (method c.now) ≡ true) }
     ensures { Answers (session_step c.now chip.now (records s.old)) result s.old s.new }
 {
-    let m = byte_at(c, METHOD);
-    if m == 8 {
-        return method_policies::make_puk(s, x, c, chip);
+    match byte_at(c, METHOD) {
+        8 => method_policies::make_puk(s, x, c, chip),
+        9 => method_policies::make_policy(s, x, c, chip),
+        10 => method_keys::make_key(s, x, c, chip),
+        _ => method_keys::set_path(s, x, c, chip),
     }
-    if m == 9 {
-        return method_policies::make_policy(s, x, c, chip);
-    }
-    if m == 10 {
-        return method_keys::make_key(s, x, c, chip);
-    }
-    method_keys::set_path(s, x, c, chip)
 }
 
 // The calls of a session, which is decoded once: something is made in it, it is ended, or it asks for a removal or an unlocking. They stand
@@ -116,16 +100,12 @@ fn session_step<'a>(s: &mut [u8], i: usize, c: &'a [u8], chip: &'a [u8]) -> Repl
     if is_making(m) {
         return make_step(s, x, c, chip);
     }
-    if m == 3 {
-        return method_session::close(s, x, c, chip);
+    match m {
+        3 => method_session::close(s, x, c, chip),
+        5 => method_session::abort(s, c, chip),
+        50 => method_posts::post_delete(s, x, c, chip),
+        _ => method_posts::post_unlock(s, x, c, chip),
     }
-    if m == 5 {
-        return method_session::abort(s, c, chip);
-    }
-    if m == 50 {
-        return method_posts::post_delete(s, x, c, chip);
-    }
-    method_posts::post_unlock(s, x, c, chip)
 }
 
 // The user's calls.
@@ -133,17 +113,12 @@ fn user_step(s: &mut [u8], c: &[u8], chip: &[u8]) -> u8
     requires { is_sound s.old ≡ true }
     ensures { Answers (user_step c.now chip.now (records s.old)) (bare_reply result) s.old s.new }
 {
-    let m = byte_at(c, METHOD);
-    if m == 80 {
-        return method_users::delete(s, c, chip);
+    match byte_at(c, METHOD) {
+        80 => method_users::delete(s, c, chip),
+        82 => method_users::unlock(s, c, chip),
+        83 => method_users::change(s, c, chip),
+        _ => method_users::use_key(s, c, chip),
     }
-    if m == 82 {
-        return method_users::unlock(s, c, chip);
-    }
-    if m == 83 {
-        return method_users::change(s, c, chip);
-    }
-    method_users::use_key(s, c, chip)
 }
 
 fn step<'a>(s: &mut [u8], i: usize, c: &'a [u8], chip: &'a [u8]) -> Reply
@@ -163,9 +138,8 @@ fn judge<'a>(s: &mut [u8], c: &'a [u8], chip: &'a [u8]) -> Reply
     ensures { known result s.new ≡ judged s.old c.now chip.now }
 {
     let i = place(s, c);
-    let n = early(s, i, c);
-    if n != 0 {
-        return bare(n);
+    if let Err(e) = early(s, i, c) {
+        return refused(e);
     }
     step(s, i, c, chip)
 }
@@ -176,10 +150,7 @@ fn write_head(b: &mut [u8], n: u8, h: u64)
     ensures { b.new ≡ over 0 (n ∷ enc4 h) b.old }
 {
     b[REPLY_STATUS] = n;
-    b[REPLY_HANDLE] = (h / 256 / 256 / 256 % 256) as u8;
-    b[REPLY_HANDLE + 1] = (h / 256 / 256 % 256) as u8;
-    b[REPLY_HANDLE + 2] = (h / 256 % 256) as u8;
-    b[REPLY_HANDLE + 3] = (h % 256) as u8;
+    b[REPLY_HANDLE..REPLY_ATTESTATION].copy_from_slice(&h.to_be_bytes()[4..]);
 }
 
 fn write_attestation(b: &mut [u8], a: [u8; 32])
@@ -203,7 +174,8 @@ pub fn call<'a>(store: &mut [u8], call: &'a [u8], chip: &'a [u8], reply: &mut [u
     r.status
 }
 
-// What `token_c` exports for C: whether the store is sound, for firmware that wants to know it without a call, and the same two functions.
+// What `token_c` exports for C: whether the store is sound, for firmware that wants to know it without a call, and the same two functions
+// under the names that C knows.
 pub fn sks_sound(store: &[u8]) -> bool
     ensures { result ≡ is_sound store.now }
 {

@@ -4,398 +4,271 @@
 
 #![tactic(auto)]
 
-ghost use Rattle.std.specs.Prelude.{◌≡◌, ◌<◌, ◌≤◌, length};
+ghost use Rattle.std.specs.Prelude.{length};
+ghost use Rattle.std.specs.Iterator.{at_most};
 
-use std::io;
+use std::{fmt, io};
+
+// The lengths of the pieces that a message is taken in, from the first on and round again.
+const PIECES: [usize; 6] = [1, 63, 64, 65, 3, 130];
 
 // How many vectors were tried, and how many of them were right.
-#[derive(Clone, Copy)]
+#[derive(Clone, Copy, Debug, Default, PartialEq, Eq)]
 struct Tally {
     tried: u64,
     right: u64,
 }
 
-fn say(rt: &impl Print, text: &[u8]) -> io::Result<()> {
-    rt.write_all(text)
-}
-
-fn digit(n: u8) -> u8
-    requires { n < 16 }
-{
-    if n < 10 { b'0' + n } else { b'a' + (n - 10) }
-}
-
-// A digest in hexadecimal.
-fn hex(d: [u8; 32]) -> [u8; 64] {
-    let mut text = [0u8; 64];
-    let mut i: usize = 0;
-    while i < 32 {
-        text[i * 2] = digit(d[i] / 16 % 16);
-        text[i * 2 + 1] = digit(d[i] % 16);
-        i += 1;
-    }
-    text
-}
-
-// The length of piece k of a message. Pieces are counted from 0 to 5, and round again.
-fn size(k: usize) -> usize
-    ensures { (0 < result) × (result ≤ 130) }
-{
-    match k {
-        0 => 1,
-        1 => 63,
-        2 => 64,
-        3 => 65,
-        4 => 3,
-        _ => 130,
+impl Tally {
+    fn count(&mut self, is_right: bool) {
+        self.tried = self.tried.wrapping_add(1);
+        self.right = self.right.wrapping_add(u64::from(is_right));
     }
 }
 
-// The same, or what is left of the message, where that is less.
-fn piece(k: usize, left: usize) -> usize
-    requires { 0 < left }
-    ensures { (0 < result) × (result ≤ left) × (result ≤ 130) }
-{
-    let n = size(k);
-    if n < left { n } else { left }
-}
+// Bytes that are printed in hexadecimal.
+#[derive(Clone, Copy)]
+struct Hex<'a>(&'a [u8]);
 
-// The hash of m in pieces, an empty one first.
-fn hash_in_pieces(m: &[u8]) -> [u8; 32] {
-    let mut s = sha256::update(sha256::start(), b"");
-    let mut i: usize = 0;
-    let mut k: usize = 0;
-    while i < m.len() {
-        let e = i + piece(k, m.len() - i);
-        s = sha256::update(s, &m[i..e]);
-        i = e;
-        k = (k + 1) % 6;
+impl fmt::Display for Hex<'_> {
+    fn fmt<W: fmt::Write>(&self, f: &mut fmt::Formatter<W>) -> fmt::Result {
+        for byte in self.0 {
+            write!(f, "{byte:02x}")?;
+        }
+        Ok(())
     }
-    sha256::finish(s)
 }
 
-// The MAC of m in pieces, an empty one first.
-fn mac_in_pieces(key: &[u8], m: &[u8]) -> [u8; 32] {
-    let mut s = hmac::update(hmac::start(key), b"");
-    let mut i: usize = 0;
-    let mut k: usize = 0;
-    while i < m.len() {
-        let e = i + piece(k, m.len() - i);
-        s = hmac::update(s, &m[i..e]);
-        i = e;
-        k = (k + 1) % 6;
+// The pieces of a message, of uneven lengths; the last has what is left.
+#[derive(Drop)]
+struct Pieces<'a> {
+    rest: &'a [u8],
+    turn: usize,
+}
+
+impl<'a> Pieces<'a> {
+    fn of(message: &'a [u8]) -> Self {
+        Pieces {
+            rest: message,
+            turn: 0,
+        }
     }
-    hmac::finish(s)
 }
 
-// The hash of one million times "a" in pieces, from a buffer that is as long as the longest of them.
-fn million_in_pieces() -> [u8; 32] {
-    let a = [b'a'; 130];
-    let mut s = sha256::start();
-    let mut left: usize = 1000000;
-    let mut k: usize = 0;
-    while left > 0 {
-        let n = piece(k, left);
-        s = sha256::update(s, &a[..n]);
-        left -= n;
-        k = (k + 1) % 6;
+impl<'a> Iterator for Pieces<'a> {
+    type Item = &'a [u8];
+
+    ghost remaining = { λ p. at_most (length p.rest.now) };
+
+    fn next(&mut self) -> Option<&'a [u8]> {
+        if self.rest.is_empty() {
+            return None;
+        }
+        let turn = self.turn % PIECES.len();
+        let (piece, rest) = self.rest.split_at(PIECES[turn].min(self.rest.len()));
+        self.rest = rest;
+        self.turn = turn + 1;
+        Some(piece)
     }
-    sha256::finish(s)
 }
 
-// The first n bytes of a text, or all where it has fewer.
-fn first(text: &[u8], n: usize) -> &[u8] {
-    if n < text.len() { &text[..n] } else { text }
+// The hash of a message in pieces, an empty one first.
+fn hash_in_pieces(message: &[u8]) -> [u8; 32] {
+    let start = sha256::update(sha256::start(), b"");
+    sha256::finish(Pieces::of(message).fold(start, sha256::update))
 }
 
-fn say_found(rt: &impl Print, words: &[u8], digest: &[u8]) -> io::Result<()> {
-    say(rt, words)?;
-    say(rt, digest)
+// The MAC of a message in pieces, an empty one first.
+fn mac_in_pieces(key: &[u8], message: &[u8]) -> [u8; 32] {
+    let start = hmac::update(hmac::start(key), b"");
+    hmac::finish(Pieces::of(message).fold(start, hmac::update))
 }
 
-// The end of a vector's line, and the vector counted.
+// The end of a vector's line, and the vector counted. Both digests are compared as far as the expected one goes.
 fn judge(
-    rt: &impl Print,
-    t: Tally,
-    expected: &[u8],
-    at_once: &[u8],
-    in_pieces: &[u8],
-) -> io::Result<Tally> {
-    let is_right = check::same(at_once, expected) && check::same(in_pieces, expected);
-    if is_right {
-        say_found(rt, b": ok, ", at_once)?;
-    } else {
-        say_found(rt, b": WRONG, found ", at_once)?;
-        say_found(rt, b" and in pieces ", in_pieces)?;
-    }
-    say(rt, b"\n")?;
-    Ok(Tally {
-        tried: std::num::wrapping_add_u64(t.tried, 1),
-        right: std::num::wrapping_add_u64(t.right, is_right as u64),
-    })
-}
-
-// A vector's line. Both digests are compared as far as the expected one goes.
-fn report(
-    rt: &impl Print,
-    t: Tally,
-    name: &[u8],
-    expected: &[u8],
+    rt: &(impl Print + AllocGlobal),
+    tally: &mut Tally,
+    expected: &str,
     at_once: [u8; 32],
     in_pieces: [u8; 32],
-) -> io::Result<Tally> {
-    let n = expected.len();
-    say(rt, name)?;
-    judge(
-        rt,
-        t,
-        expected,
-        first(&hex(at_once), n),
-        first(&hex(in_pieces), n),
-    )
+) -> io::Result<()> {
+    let n = (expected.len() / 2).min(32);
+    let at_once = format!(in rt.alloc(); "{}", Hex(&at_once[..n]))?;
+    let in_pieces = format!(in rt.alloc(); "{}", Hex(&in_pieces[..n]))?;
+    let is_right = at_once.as_str() == expected && in_pieces.as_str() == expected;
+    tally.count(is_right);
+    if is_right {
+        println!(rt; ": ok, {at_once}")
+    } else {
+        println!(rt; ": WRONG, found {at_once} and in pieces {in_pieces}")
+    }
 }
 
-fn hash(rt: &impl Print, t: Tally, name: &[u8], m: &[u8], expected: &[u8]) -> io::Result<Tally> {
-    say(rt, b"SHA-256 of ")?;
-    report(rt, t, name, expected, sha256::sha256(m), hash_in_pieces(m))
+fn hash(
+    rt: &(impl Print + AllocGlobal),
+    tally: &mut Tally,
+    name: &str,
+    message: &[u8],
+    expected: &str,
+) -> io::Result<()> {
+    print!(rt; "SHA-256 of {name}")?;
+    let at_once = sha256::sha256(message);
+    judge(rt, tally, expected, at_once, hash_in_pieces(message))
 }
 
 fn mac(
-    rt: &impl Print,
-    t: Tally,
-    name: &[u8],
+    rt: &(impl Print + AllocGlobal),
+    tally: &mut Tally,
+    name: &str,
     key: &[u8],
-    m: &[u8],
-    expected: &[u8],
-) -> io::Result<Tally> {
-    say(rt, b"HMAC-SHA-256, RFC 4231 ")?;
-    report(
-        rt,
-        t,
-        name,
-        expected,
-        hmac::hmac(key, m),
-        mac_in_pieces(key, m),
-    )
+    message: &[u8],
+    expected: &str,
+) -> io::Result<()> {
+    print!(rt; "HMAC-SHA-256, RFC 4231 {name}")?;
+    let at_once = hmac::hmac(key, message);
+    judge(rt, tally, expected, at_once, mac_in_pieces(key, message))
 }
 
 // NIST's example messages for SHA-256 but for the longest, and the 896-bit one that it has for SHA-512.
-fn examples(rt: &impl Print, t: Tally) -> io::Result<Tally> {
-    let mut r = t;
-    r = hash(
-        rt,
-        r,
-        b"no bytes",
-        b"",
-        b"e3b0c44298fc1c149afbf4c8996fb92427ae41e4649b934ca495991b7852b855",
-    )?;
-    r = hash(
-        rt,
-        r,
-        b"\"abc\"",
-        b"abc",
-        b"ba7816bf8f01cfea414140de5dae2223b00361a396177a9cb410ff61f20015ad",
-    )?;
-    Ok(r)
-}
-
-// The longer of them.
-fn long_examples(rt: &impl Print, t: Tally) -> io::Result<Tally> {
-    let mut r = t;
-    r = hash(
-        rt,
-        r,
-        b"NIST's 448-bit message",
-        b"abcdbcdecdefdefgefghfghighijhijkijkljklmklmnlmnomnopnopq",
-        b"248d6a61d20638b8e5c026930c3e6039a33ce45964ff2167f6ecedd419db06c1",
-    )?;
-    r = hash(
-        rt,
-        r,
-        b"NIST's 896-bit message",
-        b"abcdefghbcdefghicdefghijdefghijkefghijklfghijklmghijklmnhijklmnoijklmnopjklmnopqklmnopqrlmnopqrsmnopqrstnopqrstu",
-        b"cf5b16a778af8380036ce59e7b0492370b249b11e8f07a51afac45037afee9d1",
-    )?;
-    Ok(r)
-}
-
-// So many times "a".
-fn hash_of_a(
-    rt: &impl Print,
-    t: Tally,
-    n: usize,
-    name: &[u8],
-    expected: &[u8],
-) -> io::Result<Tally> {
-    hash(rt, t, name, first(&[b'a'; 120], n), expected)
+fn examples(rt: &(impl Print + AllocGlobal), tally: &mut Tally) -> io::Result<()> {
+    let vectors: [(&str, &[u8], &str); 4] = [
+        (
+            "no bytes",
+            b"",
+            "e3b0c44298fc1c149afbf4c8996fb92427ae41e4649b934ca495991b7852b855",
+        ),
+        (
+            "\"abc\"",
+            b"abc",
+            "ba7816bf8f01cfea414140de5dae2223b00361a396177a9cb410ff61f20015ad",
+        ),
+        (
+            "NIST's 448-bit message",
+            b"abcdbcdecdefdefgefghfghighijhijkijkljklmklmnlmnomnopnopq",
+            "248d6a61d20638b8e5c026930c3e6039a33ce45964ff2167f6ecedd419db06c1",
+        ),
+        (
+            "NIST's 896-bit message",
+            b"abcdefghbcdefghicdefghijdefghijkefghijklfghijklmghijklmnhijklmnoijklmnopjklmnopqklmnopqrlmnopqrsmnopqrstnopqrstu",
+            "cf5b16a778af8380036ce59e7b0492370b249b11e8f07a51afac45037afee9d1",
+        ),
+    ];
+    for (name, message, expected) in vectors {
+        hash(rt, tally, name, message, expected)?;
+    }
+    Ok(())
 }
 
 // Lengths around those at which the message or its padding fills a block. No standard has these messages: their digests, and
 // that of the 896-bit message, come from another implementation.
-fn lengths(rt: &impl Print, t: Tally) -> io::Result<Tally> {
-    let mut r = t;
-    r = hash_of_a(
-        rt,
-        r,
-        55,
-        b"55 times \"a\"",
-        b"9f4390f8d30c2dd92ec9f095b65e2b9ae9b0a925a5258e241c9f1e910f734318",
-    )?;
-    r = hash_of_a(
-        rt,
-        r,
-        56,
-        b"56 times \"a\"",
-        b"b35439a4ac6f0948b6d6f9e3c6af0f5f590ce20f1bde7090ef7970686ec6738a",
-    )?;
-    r = hash_of_a(
-        rt,
-        r,
-        63,
-        b"63 times \"a\"",
-        b"7d3e74a05d7db15bce4ad9ec0658ea98e3f06eeecf16b4c6fff2da457ddc2f34",
-    )?;
-    longer(rt, r)
-}
-
-// The same where the message fills a block.
-fn longer(rt: &impl Print, t: Tally) -> io::Result<Tally> {
-    let mut r = t;
-    r = hash_of_a(
-        rt,
-        r,
-        64,
-        b"64 times \"a\"",
-        b"ffe054fe7ae0cb6dc65c3af9b61d5209f439851db43d0ba5997337df154668eb",
-    )?;
-    r = hash_of_a(
-        rt,
-        r,
-        65,
-        b"65 times \"a\"",
-        b"635361c48bb9eab14198e76ea8ab7f1a41685d6ad62aa9146d301d4f17eb0ae0",
-    )?;
-    r = hash_of_a(
-        rt,
-        r,
-        119,
-        b"119 times \"a\"",
-        b"31eba51c313a5c08226adf18d4a359cfdfd8d2e816b13f4af952f7ea6584dcfb",
-    )?;
-    r = hash_of_a(
-        rt,
-        r,
-        120,
-        b"120 times \"a\"",
-        b"2f3d335432c70b580af0e8e1b3674a7c020d683aa5f73aaaedfdc55af904c21c",
-    )?;
-    Ok(r)
-}
-
-// One million times "a".
-fn letters() -> [u8; 1000000]
-    ensures { 1000000 ≡ length result }
-{
-    [b'a'; 1000000]
+fn lengths(rt: &(impl Print + AllocGlobal), tally: &mut Tally) -> io::Result<()> {
+    let vectors = [
+        (
+            55,
+            "9f4390f8d30c2dd92ec9f095b65e2b9ae9b0a925a5258e241c9f1e910f734318",
+        ),
+        (
+            56,
+            "b35439a4ac6f0948b6d6f9e3c6af0f5f590ce20f1bde7090ef7970686ec6738a",
+        ),
+        (
+            63,
+            "7d3e74a05d7db15bce4ad9ec0658ea98e3f06eeecf16b4c6fff2da457ddc2f34",
+        ),
+        (
+            64,
+            "ffe054fe7ae0cb6dc65c3af9b61d5209f439851db43d0ba5997337df154668eb",
+        ),
+        (
+            65,
+            "635361c48bb9eab14198e76ea8ab7f1a41685d6ad62aa9146d301d4f17eb0ae0",
+        ),
+        (
+            119,
+            "31eba51c313a5c08226adf18d4a359cfdfd8d2e816b13f4af952f7ea6584dcfb",
+        ),
+        (
+            120,
+            "2f3d335432c70b580af0e8e1b3674a7c020d683aa5f73aaaedfdc55af904c21c",
+        ),
+    ];
+    for (n, expected) in vectors {
+        let name = format!(in rt.alloc(); "{n} times \"a\"")?;
+        let message = vec![in rt.alloc(); b'a'; n]?;
+        hash(rt, tally, name.as_str(), &message, expected)?;
+    }
+    Ok(())
 }
 
 // The longest of NIST's example messages.
-fn million(rt: &impl Print, t: Tally) -> io::Result<Tally> {
-    let a = letters();
-    say(rt, b"SHA-256 of ")?;
-    report(
+fn million(rt: &(impl Print + AllocGlobal), tally: &mut Tally) -> io::Result<()> {
+    let message = vec![in rt.alloc(); b'a'; 1_000_000]?;
+    hash(
         rt,
-        t,
-        b"one million times \"a\"",
-        b"cdc76e5c9914fb9281a1c7e284d73e67f1809a48a497200e046d39ccc7112cd0",
-        sha256::sha256(&a),
-        million_in_pieces(),
+        tally,
+        "one million times \"a\"",
+        &message,
+        "cdc76e5c9914fb9281a1c7e284d73e67f1809a48a497200e046d39ccc7112cd0",
     )
 }
 
-// The test cases of RFC 4231 whose keys are shorter than a block.
-fn short_keys(rt: &impl Print, t: Tally) -> io::Result<Tally> {
-    let mut r = t;
-    r = mac(
-        rt,
-        r,
-        b"case 1",
-        &[0x0bu8; 20],
-        b"Hi There",
-        b"b0344c61d8db38535ca8afceaf0bf12b881dc200c9833da726e9376c2e32cff7",
-    )?;
-    r = mac(
-        rt,
-        r,
-        b"case 2",
-        b"Jefe",
-        b"what do ya want for nothing?",
-        b"5bdcc146bf60754e6a042426089575c75a003f089d2739839dec58b964ec3843",
-    )?;
-    Ok(r)
-}
-
-// Three more of them. Of case 5 the RFC gives the first 128 bits alone.
-fn more_short_keys(rt: &impl Print, t: Tally) -> io::Result<Tally> {
-    let mut r = t;
-    r = mac(
-        rt,
-        r,
-        b"case 3",
-        &[0xaau8; 20],
-        &[0xddu8; 50],
-        b"773ea91e36800e46854db8ebd09181a72959098b3ef8c122d9635514ced565fe",
-    )?;
-    r = mac(
-        rt,
-        r,
-        b"case 4",
-        b"\x01\x02\x03\x04\x05\x06\x07\x08\x09\x0a\x0b\x0c\x0d\x0e\x0f\x10\x11\x12\x13\x14\x15\x16\x17\x18\x19",
-        &[0xcdu8; 50],
-        b"82558a389a443c0ea4cc819899f2083a85f0faa3e578f8077a2e3ff46729665b",
-    )?;
-    r = mac(
-        rt,
-        r,
-        b"case 5, its first 128 bits",
-        &[0x0cu8; 20],
-        b"Test With Truncation",
-        b"a3b6167473100ee06e0c796c2955552b",
-    )?;
-    Ok(r)
-}
-
-// The test cases of RFC 4231 whose keys are longer than a block.
-fn long_keys(rt: &impl Print, t: Tally) -> io::Result<Tally> {
-    let mut r = t;
-    r = mac(
-        rt,
-        r,
-        b"case 6",
-        &[0xaau8; 131],
-        b"Test Using Larger Than Block-Size Key - Hash Key First",
-        b"60e431591ee0b67f0d8a26aacbf5b77f8e0bc6213728c5140546040f0ee37f54",
-    )?;
-    r = mac(
-        rt,
-        r,
-        b"case 7",
-        &[0xaau8; 131],
-        b"This is a test using a larger than block-size key and a larger than block-size data. The key needs to be hashed before being used by the HMAC algorithm.",
-        b"9b09ffa71b942fcb27635fbcd5b0e944bfdc63644f0713938a7f51535c3a35e2",
-    )?;
-    Ok(r)
+// The test cases of RFC 4231. The keys of the last two are longer than a block; of case 5 the RFC gives the first 128 bits alone.
+fn macs(rt: &(impl Print + AllocGlobal), tally: &mut Tally) -> io::Result<()> {
+    let vectors: [(&str, &[u8], &[u8], &str); 7] = [
+        (
+            "case 1",
+            &[0x0b; 20],
+            b"Hi There",
+            "b0344c61d8db38535ca8afceaf0bf12b881dc200c9833da726e9376c2e32cff7",
+        ),
+        (
+            "case 2",
+            b"Jefe",
+            b"what do ya want for nothing?",
+            "5bdcc146bf60754e6a042426089575c75a003f089d2739839dec58b964ec3843",
+        ),
+        (
+            "case 3",
+            &[0xaa; 20],
+            &[0xdd; 50],
+            "773ea91e36800e46854db8ebd09181a72959098b3ef8c122d9635514ced565fe",
+        ),
+        (
+            "case 4",
+            b"\x01\x02\x03\x04\x05\x06\x07\x08\x09\x0a\x0b\x0c\x0d\x0e\x0f\x10\x11\x12\x13\x14\x15\x16\x17\x18\x19",
+            &[0xcd; 50],
+            "82558a389a443c0ea4cc819899f2083a85f0faa3e578f8077a2e3ff46729665b",
+        ),
+        (
+            "case 5, its first 128 bits",
+            &[0x0c; 20],
+            b"Test With Truncation",
+            "a3b6167473100ee06e0c796c2955552b",
+        ),
+        (
+            "case 6",
+            &[0xaa; 131],
+            b"Test Using Larger Than Block-Size Key - Hash Key First",
+            "60e431591ee0b67f0d8a26aacbf5b77f8e0bc6213728c5140546040f0ee37f54",
+        ),
+        (
+            "case 7",
+            &[0xaa; 131],
+            b"This is a test using a larger than block-size key and a larger than block-size data. The key needs to be hashed before being used by the HMAC algorithm.",
+            "9b09ffa71b942fcb27635fbcd5b0e944bfdc63644f0713938a7f51535c3a35e2",
+        ),
+    ];
+    for (name, key, message, expected) in vectors {
+        mac(rt, tally, name, key, message, expected)?;
+    }
+    Ok(())
 }
 
 fn main(rt: HostRuntime) -> io::Result<()> {
-    let none = Tally { tried: 0, right: 0 };
-    let hashes = million(
-        &rt,
-        lengths(&rt, long_examples(&rt, examples(&rt, none)?)?)?,
-    )?;
-    let t = long_keys(&rt, more_short_keys(&rt, short_keys(&rt, hashes)?)?)?;
-    rt.print(t.tried)?;
-    say(&rt, b" vectors, ")?;
-    rt.print(t.right)?;
-    say(&rt, b" ok\n")
+    let mut tally = Tally::default();
+    examples(&rt, &mut tally)?;
+    lengths(&rt, &mut tally)?;
+    million(&rt, &mut tally)?;
+    macs(&rt, &mut tally)?;
+    println!(rt; "{} vectors, {} ok", tally.tried, tally.right)
 }

@@ -1,26 +1,12 @@
--- Three equal bytes stand in the text just if they stand from i on.
-use mathlib.Core.Path.{refl, sym, ◌∙◌}
-use Prim.Native.Nat.{◌-◌}
-use native.Mathlib.Omega.{arith}
-use Rattle.call_text.proofs.Steps.{three_more, three_end}
+-- Each three in a row are asked whether they are equal.
+use mathlib.Core.Path.{◌∙◌}
+use borrow.Author.Tests.{tests}
+use Rattle.std.proofs.Common.{rules, lit<}
+use Rattle.std.proofs.lemmas.Iterator.Search.{any_from_yields_List}
+use Rattle.call_text.proofs.Windows.{YieldsList-from_windows, are_three_equal, three_windows}
 use Rattle.call_text.proofs.has_three_equal.Goals as goal
 
-pub loop-i-init : goal.loop-i-init
-loop-i-init c = (omega arith, refl)
-
-pub returns-then-are_equal : goal.returns-then-are_equal
-returns-then-are_equal c =
-    let loop = c.loop-i in
-    let loop-test = c.loop-i-test in
-    let are-equal = c.are_equal in
-    sym (loop.invariant.1 ∙ three_more _ _ loop-test.true ∙ rw (sym are-equal.ensures ∙ c.if-are_equal.true))
-
-pub loop-i-preserved : goal.loop-i-preserved
-loop-i-preserved c =
-    let loop = c.loop-i in
-    let loop-test = c.loop-i-test in
-    let are-equal = c.are_equal in
-    (omega arith, loop.invariant.1 ∙ three_more _ _ loop-test.true ∙ rw (sym are-equal.ensures ∙ c.if-are_equal.false))
-
 pub returns : goal.returns
-returns c = sym (c.loop-i.invariant.1 ∙ three_end _ _ c.loop-i-test.false)
+returns c =
+    let v = c.args.v.now in
+    any_from_yields_List are_three_equal _ _ _ c.any.ensures.ran (YieldsList-from_windows 3 v (lit< tt) (cc) (cc)) (λ x b q k. search (rules, tests)) ∙ three_windows v

@@ -1,25 +1,12 @@
--- Equal neighbours stand in the text just if they stand from i on.
-use mathlib.Core.Path.{refl, sym, ◌∙◌}
-use Prim.Native.Nat.{◌-◌}
-use native.Mathlib.Omega.{arith}
-use borrow.Author.Tests.{eq-eqb, ne_eqb}
-use Rattle.call_text.proofs.Steps.{two_more, two_end}
+-- Each two neighbours are asked whether they are equal.
+use mathlib.Core.Path.{◌∙◌}
+use borrow.Author.Tests.{tests}
+use Rattle.std.proofs.Common.{rules, lit<}
+use Rattle.std.proofs.lemmas.Iterator.Search.{any_from_yields_List}
+use Rattle.call_text.proofs.Windows.{YieldsList-from_windows, are_two_equal, two_windows}
 use Rattle.call_text.proofs.has_two_equal.Goals as goal
 
-pub loop-i-init : goal.loop-i-init
-loop-i-init c = (omega arith, refl)
-
-pub returns-then-v-i : goal.returns-then-v-i
-returns-then-v-i c =
-    let loop = c.loop-i in
-    let loop-test = c.loop-i-test in
-    sym (loop.invariant.1 ∙ two_more _ _ loop-test.true ∙ rw (eq-eqb _ _ c.if-v-i.true))
-
-pub loop-i-preserved : goal.loop-i-preserved
-loop-i-preserved c =
-    let loop = c.loop-i in
-    let loop-test = c.loop-i-test in
-    (omega arith, loop.invariant.1 ∙ two_more _ _ loop-test.true ∙ rw (ne_eqb _ _ c.if-v-i.false))
-
 pub returns : goal.returns
-returns c = sym (c.loop-i.invariant.1 ∙ two_end _ _ c.loop-i-test.false)
+returns c =
+    let v = c.args.v.now in
+    any_from_yields_List are_two_equal _ _ _ c.any.ensures.ran (YieldsList-from_windows 2 v (lit< tt) (cc) (cc)) (λ x b q k. search (rules, tests)) ∙ two_windows v

@@ -1,27 +1,12 @@
--- The text is a run just if it is one from i on.
-use mathlib.Core.Path.{refl, sym, ◌∙◌}
-use Prim.Native.Nat.{◌-◌}
-use native.Mathlib.Omega.{arith}
-use borrow.Author.Tests.{not-true, not-false}
-use Rattle.call_text.proofs.Steps.{run_more, run_end}
+-- Each two neighbours are asked whether the second may stand behind the first.
+use mathlib.Core.Path.{◌∙◌}
+use borrow.Author.Tests.{tests}
+use Rattle.std.proofs.Common.{rules, lit<}
+use Rattle.std.proofs.lemmas.Iterator.Search.{all_from_yields_List}
+use Rattle.call_text.proofs.Windows.{YieldsList-from_windows, are_next, run_windows}
 use Rattle.call_text.proofs.is_run.Goals as goal
 
-pub loop-i-init : goal.loop-i-init
-loop-i-init c = (omega arith, refl)
-
-pub returns-then-not-is_next : goal.returns-then-not-is_next
-returns-then-not-is_next c =
-    let loop = c.loop-i in
-    let loop-test = c.loop-i-test in
-    let is-next = c.is_next in
-    sym (loop.invariant.1 ∙ run_more _ _ _ loop-test.true ∙ rw (sym is-next.ensures ∙ not-true _ c.if-not-is_next.true-raw))
-
-pub loop-i-preserved : goal.loop-i-preserved
-loop-i-preserved c =
-    let loop = c.loop-i in
-    let loop-test = c.loop-i-test in
-    let is-next = c.is_next in
-    (omega arith, loop.invariant.1 ∙ run_more _ _ _ loop-test.true ∙ rw (sym is-next.ensures ∙ not-false _ c.if-not-is_next.false-raw))
-
 pub returns : goal.returns
-returns c = sym (c.loop-i.invariant.1 ∙ run_end _ _ _ c.loop-i-test.false)
+returns c =
+    all_from_yields_List (are_next c.args.up) _ _ _ c.all.ensures.ran (YieldsList-from_windows 2 c.args.v.now (lit< tt) (cc) (cc)) (λ x b q k. search (rules, tests))
+    ∙ run_windows c.args.up c.args.v.now

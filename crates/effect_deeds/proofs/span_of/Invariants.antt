@@ -1,12 +1,8 @@
--- Invariant: the span is wide enough for the first i records (`span_next`).
-use Prim.Native.Nat.{◌-◌, ◌/◌}
+-- Invariant: the span is wide enough for the records so far (`span_next`).
 use Rattle.paper.specs.Records.{records}
 use Rattle.effect_deeds.proofs.Planning.{Spanned}
 use lib.ListN.{length}
 use Rattle.effect_deeds.proofs.span_of.Given as goal
 
-abbrev pub invariant-loop-i : goal.invariant-loop-i
-invariant-loop-i l = Spanned l.g (records l.store) l.s l.i
-
-abbrev pub decreases-loop-i : goal.decreases-loop-i
-decreases-loop-i l = length l.store / 256 - l.i
+abbrev pub invariant-loop-r : goal.invariant-loop-r
+invariant-loop-r l = Spanned l.g (records l.store) l.s (length l.yielded)

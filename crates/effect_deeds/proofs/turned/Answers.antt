@@ -1,37 +1,36 @@
--- Each number has its own function.
+-- Each fate has its own function.
 use Rattle.effect_deeds.specs.Deeds.{done}
 use Rattle.paper.specs.Records.{zeros}
-use borrow.Author.Tests.{ne_eqb}
 use Rattle.effect_deeds.proofs.turned.Goals as goal
 
-pub returns-in-1 : goal.returns-in-1
+pub returns-in-Stays : goal.returns-in-Stays
+unfolding done
+returns-in-Stays c = rw c.in-Stays.is
+
+pub returns-in-Freed : goal.returns-in-Freed
 unfolding done zeros
-returns-in-1 c = rw c.in-1.is
+returns-in-Freed c = rw c.in-Freed.is
 
-pub returns-in-2 : goal.returns-in-2
+pub returns-in-KeyCleared : goal.returns-in-KeyCleared
 unfolding done
-returns-in-2 c = rw c.in-2.is c.clear.ensures
+returns-in-KeyCleared c = rw c.in-KeyCleared.is c.clear.ensures
 
-pub returns-in-3 : goal.returns-in-3
+pub returns-in-PukCleared : goal.returns-in-PukCleared
 unfolding done
-returns-in-3 c = rw c.in-3.is c.clear-in-3.ensures
+returns-in-PukCleared c = rw c.in-PukCleared.is c.clear-in-PukCleared.ensures
 
-pub returns-in-4 : goal.returns-in-4
+pub returns-in-MadeStale : goal.returns-in-MadeStale
 unfolding done
-returns-in-4 c = rw c.in-4.is c.stale.ensures
+returns-in-MadeStale c = rw c.in-MadeStale.is c.stale.ensures
 
-pub returns-in-5 : goal.returns-in-5
+pub returns-in-Shut : goal.returns-in-Shut
 unfolding done
-returns-in-5 c = rw c.in-5.is c.shut.ensures
+returns-in-Shut c = rw c.in-Shut.is c.shut.ensures
 
-pub returns-in-6 : goal.returns-in-6
+pub returns-in-NewPin : goal.returns-in-NewPin
 unfolding done
-returns-in-6 c = rw c.in-6.is c.with_pin.ensures
+returns-in-NewPin c = rw c.in-NewPin.is c.with_pin.ensures
 
-pub returns-in-7 : goal.returns-in-7
+pub returns-in-NewPinCleared : goal.returns-in-NewPinCleared
 unfolding done
-returns-in-7 c = rw (c.in-7.is, c.clear-in-7.ensures, c.with_pin-in-7.ensures)
-
-pub returns-in_default : goal.returns-in_default
-unfolding done
-returns-in_default c = let w = c.in_default.in_default-own.rest in rw (ne_eqb _ _ w.0.0.0.0.0.0.1, ne_eqb _ _ w.0.0.0.0.0.1, ne_eqb _ _ w.0.0.0.0.1, ne_eqb _ _ w.0.0.0.1, ne_eqb _ _ w.0.0.1, ne_eqb _ _ w.0.1, ne_eqb _ _ w.1)
+returns-in-NewPinCleared c = rw (c.in-NewPinCleared.is, c.clear-in-NewPinCleared.ensures, c.with_pin-in-NewPinCleared.ensures)

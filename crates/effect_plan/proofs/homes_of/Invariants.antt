@@ -1,11 +1,6 @@
 -- Invariant: the sessions of the marked keys among the first i records are there (`home_next`).
-use Prim.Native.Nat.{◌-◌, ◌/◌}
 use Rattle.effect_plan.proofs.Near.{HomesTo}
-use lib.ListN.{length}
 use Rattle.effect_plan.proofs.homes_of.Given as goal
 
 abbrev pub invariant-loop-i : goal.invariant-loop-i
 invariant-loop-i l = HomesTo l.store l.m l.hs l.i
-
-abbrev pub decreases-loop-i : goal.decreases-loop-i
-decreases-loop-i l = length l.store / 256 - l.i

@@ -1,26 +1,22 @@
-use Prim.Native.Nat.{◌-◌}
+use mathlib.Core.Path.{◌≡◌, ◌∙◌}
+use mathlib.Core.List.{append-nil}
+use Prim.Native.Nat.{ℕ}
 use native.Mathlib.Omega.{arith}
-use borrow.Author.Rules.{rules}
-use lib.ListN.{length-set}
+use lib.Bits.{bit_xor}
+use lib.ListN.{get_or, take}
+use Rattle.std.proofs.lemmas.List.{take_all, drop_all, get_or_default}
+use Rattle.std.proofs.lemmas.List.Edits.{map_over_more}
 use Rattle.hmac.specs.Hmac.{xored}
-use Rattle.hmac.proofs.Bytes.{xor_more, all_xored}
 use Rattle.hmac.proofs.xor_all.Goals as goal
 
-pub loop-i-init : goal.loop-i-init
-unfolding xored
-loop-i-init c = search rules
-
-pub loop-i-preserved : goal.loop-i-preserved
-loop-i-preserved c =
-    let l = c.loop-i in
-    let a = c.args in (
-      omega arith,
-      l.invariant.1,
-      simp length-set l.invariant.2,
-      xor_more a.p a.b l.r l.i (omega arith) (omega arith) l.invariant.3,
-    )
+pub loop-x-preserved : goal.loop-x-preserved
+loop-x-preserved c =
+    let l = c.loop-x in
+    map_over_more (λ (x : ℕ). bit_xor x c.args.p) c.args.b l.x-items l.x-index (get_or l.x-items l.x-index 0) (omega arith) l.invariant (get_or_default l.x-items l.x-index 0 _ (omega arith))
 
 pub returns : goal.returns
+unfolding xored
 returns c =
-    let l = c.loop-i in
-    all_xored c.args.p c.args.b l.r l.i l.invariant.0 c.loop-i-test.false l.invariant.1 l.invariant.2 l.invariant.3
+    let l = c.loop-x in
+    let t : take l.x-index c.args.b ≡ c.args.b = take_all l.x-index c.args.b (omega arith) in
+    l.invariant ∙ rw (t, drop_all l.x-index c.args.b (omega arith), append-nil)

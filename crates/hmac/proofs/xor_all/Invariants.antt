@@ -1,12 +1,10 @@
--- Invariant: the first i bytes of r are those of b, XORed with p (`xor_more`, `all_xored`).
+-- Invariant: the bytes before the index are those of b, XORed with p.
 use mathlib.Core.Path.{◌≡◌}
-use Prim.Native.Nat.{◌-◌, ◌≤◌}
-use lib.ListN.{length, take}
-use Rattle.hmac.specs.Hmac.{xored}
+use mathlib.Core.List.{◌++◌, map}
+use Prim.Native.Nat.{ℕ}
+use lib.Bits.{bit_xor}
+use lib.ListN.{take, drop}
 use Rattle.hmac.proofs.xor_all.Given as goal
 
-abbrev pub invariant-loop-i : goal.invariant-loop-i
-invariant-loop-i l = (l.i ≤ 64) × (length l.b ≡ 64) × (length l.r ≡ 64) × (take l.i l.r ≡ xored l.p (take l.i l.b))
-
-abbrev pub decreases-loop-i : goal.decreases-loop-i
-decreases-loop-i l = 64 - l.i
+abbrev pub invariant-loop-x : goal.invariant-loop-x
+invariant-loop-x l = l.x-items ≡ map (λ (x : ℕ). bit_xor x l.p) (take l.x-index l.fn.b) ++ drop l.x-index l.fn.b

@@ -2,4 +2,4 @@
 use Rattle.issuer.proofs.is_id.Goals as goal
 
 pub returns : goal.returns
-returns c = rw (c.all_within.ensures, c.has_length.ensures)
+returns c = rw (c.all_within.ensures, c.has_length.ensures, c.from.ensures)

@@ -1,7 +1,5 @@
 -- The part that was lent comes back with the piece in it (`pasted`).
-use mathlib.Core.Path.{◌≡◌, refl}
-use native.Mathlib.Omega.{arith}
-use lib.ListN.{length}
+use mathlib.Core.Path.{refl}
 use Rattle.issuer.proofs.Writing.{pasted}
 use Rattle.issuer.proofs.put.Goals as goal
 

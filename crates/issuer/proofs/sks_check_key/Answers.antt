@@ -2,7 +2,6 @@
 use mathlib.Core.Path.{sym, ◌∙◌}
 use Prim.Native.Nat.{◌+◌}
 use lib.ListN.{length}
-use borrow.Author.Tests.{not-true, not-false}
 use Rattle.paper.specs.Mac.{key_attested_of}
 use Rattle.paper.specs.Form.{◌equals◌, ◌=<◌, ◌and◌}
 use Rattle.paper.proofs.Forms.{both}
@@ -13,7 +12,7 @@ pub returns-then-not-is_ready : goal.returns-then-not-is_ready
 returns-then-not-is_ready c =
     let a = c.args in
     unready a.key.now a.counter (key_attested_of a.id.now a.public_key.now) a.attestation.now
-    (sym c.is_ready.ensures ∙ not-true _ c.if-not-is_ready.true-raw)
+    (sym c.is_ready.ensures ∙ c.if-not-is_ready.true)
 
 pub returns-then-attestation-ne-MAC_BYTES : goal.returns-then-attestation-ne-MAC_BYTES
 returns-then-attestation-ne-MAC_BYTES c =
@@ -23,11 +22,11 @@ returns-then-attestation-ne-MAC_BYTES c =
 pub key_of-k-requires : goal.key_of-k-requires
 key_of-k-requires c =
     let a = c.args in
-    ((both (length a.key.now equals 32 and a.counter + 1 =< 65535)).0 (sym c.is_ready.ensures ∙ not-false _ c.if-not-is_ready.false-raw)).0
+    ((both (length a.key.now equals 32 and a.counter + 1 =< 65535)).0 (sym c.is_ready.ensures ∙ c.if-not-is_ready.false)).0
 
 pub returns : goal.returns
 returns c =
     let a = c.args in
     compared a.key.now a.counter (key_attested_of a.id.now a.public_key.now) a.attestation.now
-    (sym c.is_ready.ensures ∙ not-false _ c.if-not-is_ready.false-raw) c.if-attestation-ne-MAC_BYTES.false
-    (c.is_same.ensures ∙ rw (c.attested_key_under-made.ensures, c.key_of-k.ensures))
+    (sym c.is_ready.ensures ∙ c.if-not-is_ready.false) c.if-attestation-ne-MAC_BYTES.false
+    (c.is_same.ensures ∙ rw (c.attested_key_under-made.ensures, c.new.ensures, c.key_of-k.ensures))

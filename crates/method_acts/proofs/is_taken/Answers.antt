@@ -1,21 +1,16 @@
-use mathlib.Core.Path.{refl, ◌∙◌, sym}
-use Prim.Native.Nat.{◌-◌}
+-- Some record is named so (`any-records`): asked of the whole store, with the session in the statement (`some_block`).
+use borrow.Author.Tests.{tests}
+use mathlib.Core.Path.{◌∙◌}
+use Rattle.std.proofs.Common.{rules}
+use Rattle.paper.specs.Form.{test}
 use Rattle.paper.specs.Records.{records}
-use Rattle.store_records.proofs.Places.{told}
+use Rattle.store_records.proofs.Shown.{any-records}
 use Rattle.method_acts.specs.Names.{named, called}
-use Rattle.method_acts.proofs.Blocks.{some_block, some_here, some_next, some_end}
+use Rattle.method_acts.proofs.Blocks.{some_block}
 use Rattle.method_acts.proofs.is_taken.Goals as goal
 
-pub loop-i-init : goal.loop-i-init
-loop-i-init c = refl
-
-pub returns-then-is_named : goal.returns-then-is_named
-returns-then-is_named c = let φ = named c.args.t c.args.name.now in
-    sym (sym (some_block c.args.t (called c.args.name.now) (records c.args.s.now)) ∙ c.loop-i.invariant ∙ some_here φ c.args.s.now _ c.loop-i-test.true (told φ c.record_at.ensures c.is_named.ensures c.if-is_named.true))
-
-pub loop-i-preserved : goal.loop-i-preserved
-loop-i-preserved c = let φ = named c.args.t c.args.name.now in
-    c.loop-i.invariant ∙ some_next φ c.args.s.now _ c.loop-i-test.true (told φ c.record_at.ensures c.is_named.ensures c.if-is_named.false)
-
 pub returns : goal.returns
-returns c = sym (sym (some_block c.args.t (called c.args.name.now) (records c.args.s.now)) ∙ c.loop-i.invariant ∙ some_end (named c.args.t c.args.name.now) c.args.s.now _ c.loop-i-test.false)
+returns c =
+    let x = c.args in
+    any-records (λ r. test (named x.t x.name.now r)) c.records.ensures (λ y b q k. search (rules, tests)) c.any.ensures.ran
+    ∙ some_block x.t (called x.name.now) (records x.s.now)

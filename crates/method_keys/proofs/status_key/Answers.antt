@@ -1,33 +1,26 @@
--- The ladder in four parts (`half_refused`, `half_passed`).
+-- The list in four parts (`half_refused`, `half_passed`).
 use mathlib.Core.Path.{refl}
+use Rattle.std.proofs.Common.{rules}
 use Rattle.method_acts.proofs.Halves.{half_refused, half_passed}
 use Rattle.method_keys.proofs.status_key.Goals as goal
 
-pub returns-then-n-ne0 : goal.returns-then-n-ne0
-returns-then-n-ne0 c = half_refused _ _ c.key_names-n.ensures c.if-n-ne0.true
+pub returns-in_err-key_names : goal.returns-in_err-key_names
+returns-in_err-key_names c = half_refused _ _ c.in_err-key_names.field-0.0 (search rules) c.in_err-key_names.ensures
 
-pub returns-then-m-ne0 : goal.returns-then-m-ne0
-returns-then-m-ne0 c =
-    let pre = c.requires in
-    half_passed _ _ c.key_names-n.ensures refl c.if-n-ne0.false
-    (half_refused _ _ (rw (pre) at c.key_numbers-m.ensures) c.if-m-ne0.true)
+pub returns-in_err-key_numbers : goal.returns-in_err-key_numbers
+returns-in_err-key_numbers c =
+    half_passed _ _ refl c.in_ok-key_names.ensures
+    (half_refused _ _ c.in_err-key_numbers.field-0.0 (search rules) (rw c.requires at c.in_err-key_numbers.ensures))
 
-pub returns-then-p-ne0 : goal.returns-then-p-ne0
-returns-then-p-ne0 c =
-    let key-names = c.key_names-n in
-    let if1 = c.if-n-ne0 in
-    let pre = c.requires in
-    half_passed _ _ key-names.ensures refl if1.false
-    (half_passed _ _ (rw (pre) at c.key_numbers-m.ensures) refl c.if-m-ne0.false
-    (half_refused _ _ (rw (pre) at c.key_pin-p.ensures) c.if-p-ne0.true))
+pub returns-in_err-key_pin : goal.returns-in_err-key_pin
+returns-in_err-key_pin c =
+    half_passed _ _ refl c.in_ok-key_names.ensures
+    (half_passed _ _ refl (rw c.requires at c.in_ok-key_numbers.ensures)
+    (half_refused _ _ c.in_err-key_pin.field-0.0 (search rules) (rw c.requires at c.in_err-key_pin.ensures)))
 
 pub returns : goal.returns
 returns c =
-    let key-names = c.key_names-n in
-    let if1 = c.if-n-ne0 in
-    let pre = c.requires in
-    let key-numbers = c.key_numbers-m in
-    half_passed _ _ key-names.ensures refl if1.false
-    (half_passed _ _ (rw (pre) at key-numbers.ensures) refl c.if-m-ne0.false
-    (half_passed _ _ (rw (pre) at c.key_pin-p.ensures) refl c.if-p-ne0.false
-    (rw (pre) at c.key_seal.ensures)))
+    half_passed _ _ refl c.in_ok-key_names.ensures
+    (half_passed _ _ refl (rw c.requires at c.in_ok-key_numbers.ensures)
+    (half_passed _ _ refl (rw c.requires at c.in_ok-key_pin.ensures)
+    (rw c.requires at c.key_seal.ensures)))

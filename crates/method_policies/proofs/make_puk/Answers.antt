@@ -1,5 +1,5 @@
 -- Refused by its status (`told_not`), or the record is placed (`told-done`), which is whole (`puk_laid`).
-use mathlib.Core.Path.{◌∙◌, refl, sym}
+use mathlib.Core.Path.{refl, sym}
 use Rattle.paper.specs.Act.{refuse}
 use Rattle.paper.specs.Calls.{subject}
 use Rattle.paper.specs.Objects.{make_puk_by}
@@ -8,12 +8,12 @@ use Rattle.method_acts.proofs.Climbs.{told_not, told-done}
 use Rattle.method_policies.proofs.Makes.{puk_laid}
 use Rattle.method_policies.proofs.make_puk.Goals as goal
 
-pub returns-then-n-ne0 : goal.returns-then-n-ne0
+pub returns-in-Err : goal.returns-in-Err
 unfolding make_puk_by
-returns-then-n-ne0 c = rw (told_not _ refuse _ refl c.puk_status-n.ensures c.if-n-ne0.true) (rw c.four_at-t.ensures at c.refuse.ensures)
+returns-in-Err c = rw (told_not _ refuse _ refl c.in-Err.e c.in-Err.ensures) (rw c.four_at-t.ensures at c.reject.ensures)
 
 pub returns : goal.returns
 unfolding make_puk_by
 returns c = let a = c.args in
-    rw (told-done _ refuse _ refl c.puk_status-n.ensures c.if-n-ne0.false)
-    (rw (c.puk_record-r.ensures, c.fresh.ensures, c.puk_fields-q.ensures, c.four_at-t.ensures, puk_laid a.c.now a.chip.now (subject a.c.now) (value_of a.x) _ (sym c.puk_status-n.ensures ∙ c.if-n-ne0.false)) at c.place.ensures)
+    rw (told-done _ refuse _ refl c.in_default.ensures)
+    (rw (c.puk_record-r.ensures, c.fresh.ensures, c.puk_fields-q.ensures, c.four_at-t.ensures, puk_laid a.c.now a.chip.now (subject a.c.now) (value_of a.x) _ (sym c.in_default.ensures)) at c.place.ensures)

@@ -1,5 +1,4 @@
 -- Field after field, as the paper lists them (`laid_grown`).
-use mathlib.Core.Path.{◌∙◌}
 use mathlib.Core.List.{[], ◌∷◌}
 use Rattle.paper.specs.Bytes.{padded_text, zeros_of}
 use Rattle.paper.specs.Act.{fresh}
@@ -13,7 +12,18 @@ pub returns : goal.returns
 unfolding policy_record
 returns c = let a = c.args in
     let q = policy_of a.q a.c.now in
-    c.finish.ensures _ (c.zeros.ensures _ (c.byte-ruled.ensures _ (c.byte-3.ensures _ (c.byte-2.ensures _ (c.byte-set.ensures _ (c.byte.ensures _ (c.padded-named.ensures _ c.head-d.ensures)))))))
-    ∙ rw (c.string_at.ensures, c.fresh.ensures)
+    rw (
+      c.finish.ensures,
+      c.zeros.ensures,
+      c.byte-5.ensures,
+      c.byte-4.ensures,
+      c.byte-3.ensures,
+      c.byte-2.ensures,
+      c.byte.ensures,
+      c.padded.ensures,
+      c.head.ensures,
+      c.string_at.ensures,
+      c.fresh.ensures,
+    )
     (laid_grown (headed 3 q.format q.retry q.grouping (fresh a.t (value_of a.x)) a.t q.puk)
     (padded_text 32 q.id ∷ (q.defined ∷ []) ∷ (q.modifiable ∷ []) ∷ (q.patterns ∷ []) ∷ (q.min_length ∷ []) ∷ (q.max_length ∷ []) ∷ zeros_of 202 ∷ []))

@@ -1,5 +1,4 @@
 -- Field after field, as the paper lists them (`laid_grown`).
-use mathlib.Core.Path.{◌∙◌}
 use mathlib.Core.List.{[], ◌∷◌}
 use Rattle.paper.specs.Bytes.{padded_text, zeros_of}
 use Rattle.paper.specs.Act.{fresh}
@@ -13,6 +12,5 @@ pub returns : goal.returns
 unfolding puk_record
 returns c = let a = c.args in
     let q = puk_of a.q a.c.now a.chip.now in
-    c.finish.ensures _ (c.zeros.ensures _ (c.padded-valued.ensures _ (c.padded-named.ensures _ c.head-d.ensures)))
-    ∙ rw (c.string_at.ensures, c.fresh.ensures)
+    rw (c.finish.ensures, c.zeros.ensures, c.padded-2.ensures, c.padded.ensures, c.head.ensures, c.string_at.ensures, c.fresh.ensures)
     (laid_grown (headed 2 q.format q.retry 0 (fresh a.t (value_of a.x)) a.t 0) (padded_text 32 q.id ∷ padded_text 16 q.value ∷ zeros_of 190 ∷ []))

@@ -11,6 +11,5 @@ use Rattle.method_posts.proofs.pending_record.Goals as goal
 pub returns : goal.returns
 unfolding pending_record
 returns c = let a = c.args in
-    c.finish.ensures _ (c.zeros.ensures _ c.head-d.ensures)
-    ∙ rw c.fresh.ensures
+    rw (c.finish.ensures, c.zeros.ensures, c.head.ensures, c.fresh.ensures)
     (laid_grown (headed 5 a.op 0 0 (fresh a.t (value_of a.x)) a.t a.k) (zeros_of 240 ∷ []) ∙ laid_whole (pending_record a.op a.t a.k (value_of a.x)) refl)

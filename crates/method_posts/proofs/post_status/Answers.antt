@@ -1,10 +1,11 @@
--- The ladder in halves (`half_refused`, `half_passed`).
+-- The list in halves (`half_refused`, `half_passed`).
 use mathlib.Core.Path.{refl}
+use Rattle.std.proofs.Common.{rules}
 use Rattle.method_acts.proofs.Halves.{half_refused, half_passed}
 use Rattle.method_posts.proofs.post_status.Goals as goal
 
-pub returns-then-n-ne0 : goal.returns-then-n-ne0
-returns-then-n-ne0 c = half_refused _ _ c.post_rules-n.ensures c.if-n-ne0.true
+pub returns-in_err-post_rules : goal.returns-in_err-post_rules
+returns-in_err-post_rules c = half_refused _ _ c.in_err-post_rules.field-0.0 (search rules) c.in_err-post_rules.ensures
 
 pub returns : goal.returns
-returns c = half_passed _ _ c.post_rules-n.ensures refl c.if-n-ne0.false c.post_seal.ensures
+returns c = half_passed _ _ refl c.in_ok-post_rules.ensures c.post_seal.ensures

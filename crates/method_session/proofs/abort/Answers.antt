@@ -1,13 +1,15 @@
--- Whatever the form of the call, the session is freed (`gone`).
-use mathlib.Core.Path.{◌∙◌}
-use Rattle.method_session.proofs.Ending.{gone}
+-- Whatever the form of the call, the session is freed (`aborted_not`, `aborted-done`).
+use mathlib.Core.Path.{◌∙◌, sym}
+use borrow.Author.Tests.{not-true, not-false}
+use Rattle.paper.specs.Records.{records}
+use Rattle.method_session.proofs.Ending.{aborted_not, aborted-done}
 use Rattle.method_session.proofs.abort.Goals as goal
 
+pub returns-then-not-is_abort : goal.returns-then-not-is_abort
+returns-then-not-is_abort c = let a = c.args in
+    rw (aborted_not a.c.now a.chip.now (records a.s.now) (sym c.is_abort.ensures ∙ not-true _ c.if-not-is_abort.true-raw), ← c.four_at-t.ensures) c.reject.ensures
+
 pub returns : goal.returns
-returns c =
-    let args = c.args in
-    let is-abort = c.is_abort in
-    let fault = c.fault-n in
-    let four-at = c.four_at in
-    let free-session = c.free_session in
-    gone args.c.now args.chip.now (fault.ensures ∙ rw is-abort.ensures) four-at.ensures c.bare.ensures free-session.ensures
+returns c = let a = c.args in
+    rw (aborted-done a.c.now a.chip.now (records a.s.now) (sym c.is_abort.ensures ∙ not-false _ c.if-not-is_abort.false-raw), ← c.four_at-t.ensures)
+    (record { reply = c.bare.ensures; store = c.free_session.ensures })

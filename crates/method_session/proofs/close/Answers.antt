@@ -10,16 +10,14 @@ use Rattle.method_session.proofs.close.Goals as goal
 pub returns-then-s-gt-MOST_RECORDS : goal.returns-then-s-gt-MOST_RECORDS
 returns-then-s-gt-MOST_RECORDS c =
     let args = c.args in
-    rw c.bare.ensures (too_long (ended (value_of args.x) args.c.now args.chip.now) args.s.now c.if-s-gt-MOST_RECORDS.true)
+    rw c.refused.ensures (too_long (ended (value_of args.x) args.c.now args.chip.now) args.s.now c.if-s-gt-MOST_RECORDS.true)
 
-pub returns-then-n-ne0 : goal.returns-then-n-ne0
-returns-then-n-ne0 c =
+pub returns-in-Err : goal.returns-in-Err
+returns-in-Err c =
     let args = c.args in
     let if1 = c.if-s-gt-MOST_RECORDS in
-    let close-status = c.close_status-n in
-    let if2 = c.if-n-ne0 in
     let four-at = c.four_at-t in
-    in_range_lem (ended (value_of args.x) args.c.now args.chip.now) args.s.now if1.false (rw (ended_not (value_of args.x) args.c.now args.chip.now (records args.s.now) close-status.ensures if2.true, ← four-at.ensures) c.refuse.ensures)
+    in_range_lem (ended (value_of args.x) args.c.now args.chip.now) args.s.now if1.false (rw (ended_not (value_of args.x) args.c.now args.chip.now (records args.s.now) c.in-Err.e c.in-Err.ensures, ← four-at.ensures) c.reject.ensures)
 
 pub returns : goal.returns
 returns c =
@@ -27,7 +25,5 @@ returns c =
     let if1 = c.if-s-gt-MOST_RECORDS in
     let four-at = c.four_at-t in
     let attested-close = c.attested_close-a in
-    let close-status = c.close_status-n in
-    let if2 = c.if-n-ne0 in
     in_range_lem (ended (value_of args.x) args.c.now args.chip.now) args.s.now if1.false
-    (closed (value_of args.x) args.c.now args.chip.now four-at.result attested-close.result close-status.ensures if2.false four-at.ensures attested-close.ensures (not_long args.s.now _ if1.false c.close.ensures))
+    (closed (value_of args.x) args.c.now args.chip.now four-at.result attested-close.result c.in_default.ensures four-at.ensures (rw c.new.ensures at attested-close.ensures) (not_long args.s.now _ if1.false c.close.ensures))

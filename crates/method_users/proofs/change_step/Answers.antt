@@ -11,16 +11,16 @@ returns-then-store-gt-MOST_RECORDS c =
     let a = c.args in
     long (change_pin a.c.now a.chip.now) a.store.now c.if-store-gt-MOST_RECORDS.true
 
-pub returns-then-n-ne-DONE : goal.returns-then-n-ne-DONE
-returns-then-n-ne-DONE c =
+pub returns-in-Err : goal.returns-in-Err
+returns-in-Err c =
     let a = c.args in
     let rs = records a.store.now in
     let s = seen a.c.now rs c.four_at-k.ensures c.target-x.ensures c.home.ensures in
-    ranged (change_pin a.c.now a.chip.now) a.store.now c.if-store-gt-MOST_RECORDS.false (stopped (method83 a.c.now a.chip.now rs s) (c.change_status-n.ensures rs s ∙ rw c.policy_of-pol.ensures) c.if-n-ne-DONE.true)
+    ranged (change_pin a.c.now a.chip.now) a.store.now c.if-store-gt-MOST_RECORDS.false (stopped (method83 a.c.now a.chip.now rs s) c.in-Err.e (c.in-Err.ensures rs s ∙ rw c.policy_of-pol.ensures))
 
 pub returns : goal.returns
 returns c =
     let a = c.args in
     let rs = records a.store.now in
     let s = seen a.c.now rs c.four_at-k.ensures c.target-x.ensures c.home.ensures in
-    ranged (change_pin a.c.now a.chip.now) a.store.now c.if-store-gt-MOST_RECORDS.false (passed (method83 a.c.now a.chip.now rs s) (c.change_status-n.ensures rs s ∙ rw c.policy_of-pol.ensures) c.if-n-ne-DONE.false (c.by_pin.ensures (typed_new a.c.now) rs ∙ rw (fits a.store.now c.if-store-gt-MOST_RECORDS.false, c.pinned.ensures, c.policy_of-pol.ensures, c.typed.ensures, all_repinned c.target-x.result.now rs (typed_new a.c.now))))
+    ranged (change_pin a.c.now a.chip.now) a.store.now c.if-store-gt-MOST_RECORDS.false (passed (method83 a.c.now a.chip.now rs s) (c.in_default.ensures rs s ∙ rw c.policy_of-pol.ensures) (c.by_pin.ensures (typed_new a.c.now) rs ∙ rw (fits a.store.now c.if-store-gt-MOST_RECORDS.false, c.pinned.ensures, c.policy_of-pol.ensures, c.typed.ensures, all_repinned c.target-x.result.now rs (typed_new a.c.now))))

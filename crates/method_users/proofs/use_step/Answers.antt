@@ -9,19 +9,19 @@ use Rattle.paper.specs.Pin.{pin_hit}
 use Rattle.method_users.proofs.Methods.{seen, method100, stopped, passed}
 use Rattle.method_users.proofs.use_step.Goals as goal
 
-pub returns-then-n-ne-DONE : goal.returns-then-n-ne-DONE
-returns-then-n-ne-DONE c =
+pub returns-in-Err : goal.returns-in-Err
+returns-in-Err c =
     let a = c.args in
     let rs = records a.store.now in
     let s = seen a.c.now rs c.four_at-k.ensures c.target-x.ensures c.home.ensures in
-    stopped (method100 a.c.now a.chip.now rs s) (c.use_status-n.ensures rs s ∙ rw c.policy_of-pol.ensures) c.if-n-ne-DONE.true
+    stopped (method100 a.c.now a.chip.now rs s) c.in-Err.e (c.in-Err.ensures rs s ∙ rw c.policy_of-pol.ensures)
 
 pub returns-then-four_at-eq0 : goal.returns-then-four_at-eq0
 returns-then-four_at-eq0 c =
     let a = c.args in
     let rs = records a.store.now in
     let s = seen a.c.now rs c.four_at-k.ensures c.target-x.ensures c.home.ensures in
-    passed (method100 a.c.now a.chip.now rs s) (c.use_status-n.ensures rs s ∙ rw c.policy_of-pol.ensures) c.if-n-ne-DONE.false (rw (ap (λ (n : ℕ). eqb n 0) (sym c.four_at.ensures) ∙ eq-eqb _ _ c.if-four_at-eq0.true))
+    passed (method100 a.c.now a.chip.now rs s) (c.in_default.ensures rs s ∙ rw c.policy_of-pol.ensures) (rw (ap (λ (n : ℕ). eqb n 0) (sym c.four_at.ensures) ∙ eq-eqb _ _ c.if-four_at-eq0.true))
 
 pub returns : goal.returns
 unfolding pin_hit
@@ -29,4 +29,4 @@ returns c =
     let a = c.args in
     let rs = records a.store.now in
     let s = seen a.c.now rs c.four_at-k.ensures c.target-x.ensures c.home.ensures in
-    passed (method100 a.c.now a.chip.now rs s) (c.use_status-n.ensures rs s ∙ rw c.policy_of-pol.ensures) c.if-n-ne-DONE.false (rw (ap (λ (n : ℕ). eqb n 0) (sym c.four_at.ensures) ∙ ne_eqb _ _ c.if-four_at-eq0.false) (c.by_pin.ensures (typed_new a.c.now) rs ∙ rw (c.policy_of-pol.ensures, c.typed.ensures, c.four_at-2.ensures, c.four_at-3.ensures)))
+    passed (method100 a.c.now a.chip.now rs s) (c.in_default.ensures rs s ∙ rw c.policy_of-pol.ensures) (rw (ap (λ (n : ℕ). eqb n 0) (sym c.four_at.ensures) ∙ ne_eqb _ _ c.if-four_at-eq0.false) (c.by_pin.ensures (typed_new a.c.now) rs ∙ rw (c.policy_of-pol.ensures, c.typed.ensures, c.four_at-2.ensures, c.four_at-3.ensures)))

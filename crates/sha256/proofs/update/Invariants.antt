@@ -1,12 +1,10 @@
--- Invariant: the parts stand for what the state stood for, and the first i bytes of d. Each branch takes a further piece: it waits
--- (`stored_part`), is a block (`block_whole`), or fills one (`stored_full`).
-use Rattle.std.proofs.Common.{◌≡◌, ℕ, ◌-◌, ◌≤◌, List, ◌++◌, length, take}
+-- Invariant: the state is between two blocks, with what the chunks have not yielded left. The tail of that, which is no whole block, stays.
+use Rattle.std.proofs.Common.{◌≡◌, ℕ, List, ◌++◌}
 use Rattle.sha256.specs.State.{Stands}
+use Rattle.sha256.proofs.Standing.{Between, tail}
 use Rattle.sha256.proofs.update.Given as goal
 
-abbrev pub invariant-loop-i : goal.invariant-loop-i
-invariant-loop-i l = (l.i ≤ length l.d) × (length l.rest ≡ 64)
-    × ((m : List ℕ) → Stands (record { hash = l.initial.hash; rest = l.initial.rest; count = l.initial.count }) m → Stands (record { hash = l.hash; rest = l.rest; count = l.count }) (m ++ take l.i l.d))
-
-abbrev pub decreases-loop-i : goal.decreases-loop-i
-decreases-loop-i l = length l.d - l.i
+abbrev pub invariant-loop-b : goal.invariant-loop-b
+invariant-loop-b l =
+    let left : List ℕ = l.b-iterator.rest.now in
+    (l.b-iterator.size ≡ 64) × (l.tail ≡ tail left) × ((m : List ℕ) → Stands l.fn.s m → Between l.hash l.rest left (m ++ l.d))

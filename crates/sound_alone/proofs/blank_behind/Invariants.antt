@@ -1,13 +1,10 @@
--- Invariant: p counts with i, and the answer for all bytes is that for those so far, and the answer for those from i on (`blank_more`).
+-- Invariant: the answer for all bytes is that for those so far, and the answer for those from i on (`blank_more`).
 use Prim.Native.Nat.{◌-◌}
 use mathlib.Core.Bool.{not, ◌&&◌}
 use mathlib.Core.Path.{◌≡◌}
-use lib.ListN.{drop, length}
+use lib.ListN.{drop}
 use Rattle.paper.specs.Table.{is_blank}
 use Rattle.sound_alone.proofs.blank_behind.Given as goal
 
 abbrev pub invariant-loop-i : goal.invariant-loop-i
-invariant-loop-i l = (l.p ≡ l.i) × (is_blank (drop l.v l.s) ≡ not l.bad && is_blank (drop (l.v - l.i) (drop l.i l.s)))
-
-abbrev pub decreases-loop-i : goal.decreases-loop-i
-decreases-loop-i l = length l.s - l.i
+invariant-loop-i l = is_blank (drop l.v l.s) ≡ not l.bad && is_blank (drop (l.v - l.i) (drop l.i l.s))

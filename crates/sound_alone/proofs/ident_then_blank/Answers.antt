@@ -1,17 +1,13 @@
-use Prim.Native.Nat.{◌+◌, ◌-◌}
-use mathlib.Core.Path.{◌∙◌, refl, sym, ap}
-use native.Mathlib.Omega.{arith}
+use Prim.Native.Nat.{◌-◌}
+use mathlib.Core.Path.{◌∙◌, sym}
 use Rattle.sound_alone.proofs.Padded.{ident_start, ident_more, ident_done}
 use Rattle.sound_alone.proofs.ident_then_blank.Goals as goal
 
 pub loop-i-init : goal.loop-i-init
-loop-i-init c = (refl, ident_start c.args.v c.args.s.now)
-
-pub overflow_add-p : goal.overflow_add-p
-overflow_add-p c = omega arith
+loop-i-init c = ident_start c.args.v c.args.s.now
 
 pub loop-i-preserved : goal.loop-i-preserved
-loop-i-preserved c = (ap (λ n. n + 1) c.loop-i.invariant.0, c.loop-i.invariant.1 ∙ ident_more c.args.v c.args.s.now _ _ c.loop-i.bad _ c.loop-i.invariant.0 c.loop-i-test.true c.is_within.ensures)
+loop-i-preserved c = c.loop-i.invariant ∙ ident_more c.args.v c.args.s.now _ c.loop-i.bad _ c.loop-i-test.true c.is_within.ensures
 
 pub returns : goal.returns
-returns c = sym (c.loop-i.invariant.1 ∙ ident_done (c.args.v - c.loop-i.i) c.args.s.now _ c.loop-i.bad c.loop-i-test.false)
+returns c = sym (c.loop-i.invariant ∙ ident_done (c.args.v - c.loop-i.i) c.args.s.now _ c.loop-i.bad c.loop-i-test.false)

@@ -12,4 +12,4 @@ pub returns : goal.returns
 unfolding text_at
 returns c =
     let a = c.args in
-    rw (c.is_within.ensures, c.ident_then_blank.ensures, c.part_of.ensures, c.byte_at-v.ensures) (ident_field (a.i + 1) a.n a.lo (byte a.i a.r.now) a.r.now)
+    rw (c.is_within.ensures, c.ident_then_blank.ensures, c.part_of.ensures, c.from.ensures, c.byte_at-v.ensures) (ident_field (a.i + 1) a.n a.lo (byte a.i a.r.now) a.r.now)

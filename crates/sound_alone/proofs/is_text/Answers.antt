@@ -11,4 +11,4 @@ blank_behind-requires c = rw c.part_of.ensures (field_length _ _ _ (search rules
 pub returns : goal.returns
 returns c =
     let a = c.args in
-    rw (c.is_within.ensures, c.blank_behind.ensures, c.part_of.ensures, c.byte_at-v.ensures, rest_of_field (a.i + 1) a.n (byte a.i a.r.now) a.r.now)
+    rw (c.is_within.ensures, c.blank_behind.ensures, c.part_of.ensures, c.from.ensures, c.byte_at-v.ensures, rest_of_field (a.i + 1) a.n (byte a.i a.r.now) a.r.now)

@@ -1,24 +1,28 @@
--- The definition's cases in order: the first kind that fits decides.
+-- The kind says which.
+use borrow.Author.Rules.{rules}
 use Rattle.sound_quick.specs.Marks.{name_mark}
-use borrow.Author.Tests.{eq-eqb, ne_eqb}
 use Rattle.sound_quick.proofs.name_mark.Goals as goal
 
-pub returns-then-k-eq-SESSION : goal.returns-then-k-eq-SESSION
+pub returns-in-1 : goal.returns-in-1
 unfolding name_mark
-returns-then-k-eq-SESSION c = rw (← c.byte_at-k.ensures, eq-eqb _ _ c.if-k-eq-SESSION.true, c.mix.ensures, c.part_of.ensures)
+returns-in-1 c = search rules
 
-pub returns-then-has_id : goal.returns-then-has_id
+pub returns-in-5 : goal.returns-in-5
 unfolding name_mark
-returns-then-has_id c = rw (← c.has_id.ensures, ← c.byte_at-k.ensures, ne_eqb _ _ c.if-k-eq-SESSION.false, c.if-has_id.true, c.mix-then-has_id.ensures, c.four_at.ensures, c.part_of-then-has_id.ensures)
+returns-in-5 c = search rules
 
-pub returns-then-k-eq-PENDING : goal.returns-then-k-eq-PENDING
+pub returns-in-6 : goal.returns-in-6
 unfolding name_mark
-returns-then-k-eq-PENDING c = rw (← c.has_id.ensures, ← c.byte_at-k.ensures, ne_eqb _ _ c.if-k-eq-SESSION.false, c.if-has_id.false, eq-eqb _ _ c.if-k-eq-PENDING.true, c.pending_mark.ensures)
+returns-in-6 c = search rules
 
-pub returns-then-k-eq-COUNTER : goal.returns-then-k-eq-COUNTER
+pub returns-in-2 : goal.returns-in-2
 unfolding name_mark
-returns-then-k-eq-COUNTER c = rw (← c.has_id.ensures, ← c.byte_at-k.ensures, ne_eqb _ _ c.if-k-eq-SESSION.false, c.if-has_id.false, ne_eqb _ _ c.if-k-eq-PENDING.false, eq-eqb _ _ c.if-k-eq-COUNTER.true)
+returns-in-2 c = search rules
 
-pub returns : goal.returns
+pub returns-in_default : goal.returns-in_default
 unfolding name_mark
-returns c = rw (← c.has_id.ensures, ← c.byte_at-k.ensures, ne_eqb _ _ c.if-k-eq-SESSION.false, c.if-has_id.false, ne_eqb _ _ c.if-k-eq-PENDING.false, ne_eqb _ _ c.if-k-eq-COUNTER.false)
+returns-in_default c = search rules
+
+pub returns-in_default-2 : goal.returns-in_default-2
+unfolding name_mark
+returns-in_default-2 c = search rules

@@ -1,21 +1,15 @@
 -- A pass over the records (Along.antt).
-use Prim.Native.Nat.{◌-◌}
-use mathlib.Core.Path.{refl, sym, ◌∙◌}
+use mathlib.Core.Path.{sym, ◌∙◌}
 use native.Mathlib.Omega.{arith}
+use Rattle.store_records.proofs.Views.{length-records}
 use Rattle.sound_store.proofs.Along.{along_end, along_next}
 use Rattle.sound_store.proofs.above.Goals as goal
 
-pub loop-i-init : goal.loop-i-init
-loop-i-init c = (refl, refl)
-
-pub note-requires : goal.note-requires
-note-requires c = (omega (arith, c.loop-i.invariant.0, c.requires), c.seat.ensures.1)
+pub bounds-p-i : goal.bounds-p-i
+bounds-p-i c = omega (arith, length-records c.args.s.now)
 
 pub loop-i-preserved : goal.loop-i-preserved
-loop-i-preserved c = (c.note.auto.p ∙ c.loop-i.invariant.0, c.loop-i.invariant.1 ∙ along_next _ _ _ _ c.loop-i-test.true ∙ rw (c.note.ensures, c.seat.ensures.0, c.four_at.ensures, c.record_at.ensures))
-
-pub shape_of-p : goal.shape_of-p
-shape_of-p c = c.loop-i.invariant.0
+loop-i-preserved c = c.loop-i.invariant ∙ along_next _ _ _ _ (omega arith) ∙ rw (c.seat.ensures.0, c.four_at.ensures, c.record_at.ensures)
 
 pub returns : goal.returns
-returns c = sym (c.loop-i.invariant.1 ∙ along_end _ _ _ _ c.loop-i-test.false)
+returns c = sym (c.loop-i.invariant ∙ along_end _ _ _ _ (omega arith))

@@ -1,12 +1,13 @@
 -- The clauses of two records, then what each record asks of the others (`both_agree`).
+use Rattle.std.proofs.Common.{rules}
+use Rattle.paper.specs.Form.{test}
 use Rattle.paper.specs.Records.{records}
+use Rattle.sound_store.specs.Whole.{paired}
 use Rattle.sound_store.proofs.Agreeing.{both_agree}
-use borrow.Author.Tests.{not-false, not-true}
-use mathlib.Core.Path.{◌∙◌, sym}
+use mathlib.Core.Bool.{true}
+use mathlib.Core.Path.{◌≡◌, ◌∙◌}
 use Rattle.sound_store.proofs.agree.Goals as goal
 
-pub returns-then-not-all_paired : goal.returns-then-not-all_paired
-returns-then-not-all_paired c = rw (sym c.all_paired.ensures ∙ not-true _ c.if-not-all_paired.true-raw) at (both_agree (records c.args.s.now))
-
 pub returns : goal.returns
-returns c = c.all_settled.ensures ∙ rw (sym c.all_paired.ensures ∙ not-false _ c.if-not-all_paired.false-raw) at (both_agree (records c.args.s.now))
+returns c = let p : test (paired (records c.args.s.now)) ≡ true = search rules in
+    c.all_settled.ensures ∙ rw p at (both_agree (records c.args.s.now))

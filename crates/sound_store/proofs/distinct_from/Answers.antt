@@ -1,18 +1,19 @@
--- Asked of each record from a place on (sound_kin's Each.antt).
-use Prim.Native.Nat.{◌-◌}
+-- A chain over the records behind a place (store_records' Shown.antt).
+use Rattle.std.proofs.Common.{rules}
+use Rattle.std.proofs.lemmas.Iterator.Adapters.{YieldsList-from_skip}
+use Rattle.std.proofs.lemmas.Iterator.Search.{all_from_yields_List}
+use Rattle.paper.specs.Form.{test}
+use Rattle.paper.specs.Records.{records}
 use Rattle.paper.specs.Sound.{distinct}
-use Rattle.sound_kin.proofs.Each.{each_end, each_next, each_stop}
-use mathlib.Core.Path.{refl}
+use Rattle.store_records.proofs.Shown.{all-every, yields}
+use borrow.Author.Tests.{tests}
+use lib.ListN.{drop}
+use mathlib.Core.Path.{◌∙◌}
 use Rattle.sound_store.proofs.distinct_from.Goals as goal
 
-pub loop-i-init : goal.loop-i-init
-loop-i-init c = refl
-
-pub returns-then-not-are_distinct : goal.returns-then-not-are_distinct
-returns-then-not-are_distinct c = let a = c.args in each_stop (distinct a.x.now) _ _ c.loop-i.invariant c.loop-i-test.true c.record_at.ensures c.are_distinct.ensures c.if-not-are_distinct.true-raw
-
-pub loop-i-preserved : goal.loop-i-preserved
-loop-i-preserved c = let a = c.args in each_next (distinct a.x.now) _ _ c.loop-i.invariant c.loop-i-test.true c.record_at.ensures c.are_distinct.ensures c.if-not-are_distinct.false-raw
-
 pub returns : goal.returns
-returns c = let a = c.args in each_end (distinct a.x.now) a.s.now _ c.loop-i.invariant c.loop-i-test.false
+returns c = let a = c.args in
+    all_from_yields_List (λ y. test (distinct a.x.now y)) _ _ _ c.all.ensures.ran
+    (YieldsList-from_skip a.from (yields a.s.now _ (rw c.skip.ensures.source c.records.ensures)) c.skip.ensures.count)
+    (λ x b q k. search (rules, tests))
+    ∙ all-every (λ y. test (distinct a.x.now y)) (drop a.from (records a.s.now))

@@ -1,21 +1,15 @@
 -- A pass over the records (Along.antt).
-use Prim.Native.Nat.{◌-◌}
-use mathlib.Core.Path.{refl, sym, ◌∙◌}
+use mathlib.Core.Path.{sym, ◌∙◌}
 use native.Mathlib.Omega.{arith}
+use Rattle.store_records.proofs.Views.{length-records}
 use Rattle.sound_store.proofs.Along.{along_end, along_next}
 use Rattle.sound_store.proofs.seats.Goals as goal
 
-pub loop-i-init : goal.loop-i-init
-loop-i-init c = (refl, refl)
-
-pub note-requires : goal.note-requires
-note-requires c = (omega (arith, c.slot.ensures, c.loop-i.invariant.0, c.requires), omega (arith, c.requires))
+pub overflow_cast-t : goal.overflow_cast-t
+overflow_cast-t c = omega (arith, length-records c.args.s.now)
 
 pub loop-i-preserved : goal.loop-i-preserved
-loop-i-preserved c = (c.note.auto.p ∙ c.loop-i.invariant.0, c.loop-i.invariant.1 ∙ along_next _ _ _ _ c.loop-i-test.true ∙ rw (c.note.ensures, c.slot.ensures, c.four_at.ensures, c.record_at.ensures))
-
-pub shape_of-t : goal.shape_of-t
-shape_of-t c = c.loop-i.invariant.0
+loop-i-preserved c = c.loop-i.invariant ∙ along_next _ _ _ _ (omega arith) ∙ rw (c.slot.ensures, c.four_at.ensures, c.record_at.ensures)
 
 pub returns : goal.returns
-returns c = sym (c.loop-i.invariant.1 ∙ along_end _ _ _ _ c.loop-i-test.false)
+returns c = sym (c.loop-i.invariant ∙ along_end _ _ _ _ (omega arith))

@@ -1,22 +1,15 @@
-use borrow.Author.Tests.{eq-eqb, ne_eqb}
-use Prim.Native.Nat.{◌-◌}
-use lib.Dec.{eqb}
-use mathlib.Core.Path.{◌∙◌, ap}
+-- A chain over the records (`place-records`).
+use Rattle.std.proofs.Common.{rules}
+use Rattle.paper.specs.Records.{records}
+use Rattle.store_records.proofs.Views.{length-records}
+use Rattle.sound_store.proofs.Along.{place-records, place_le}
+use borrow.Author.Tests.{tests}
+use mathlib.Core.Path.{◌≡◌, ◌∙◌}
 use native.Mathlib.Omega.{arith}
-use Rattle.paper.specs.Form.{Form, Rec, ◌equals◌}
-use Rattle.paper.specs.Records.{own}
-use Rattle.store_records.proofs.Places.{index_end, index_here, index_next, told}
-use Rattle.sound_store.proofs.Along.{no_place, place_found}
+use Rattle.sound_store.specs.Guesses.{place_of}
 use Rattle.sound_store.proofs.sought.Goals as goal
 
-pub loop-i-init : goal.loop-i-init
-loop-i-init c = omega arith
-
-pub returns-then-four_at-h : goal.returns-then-four_at-h
-returns-then-four_at-h c = let a = c.args in let φ : Rec → Form = λ r. own r equals a.h in (place_found a.h a.s.now _ (c.loop-i.invariant ∙ index_here φ _ _ c.loop-i-test.true (told φ c.record_at.ensures (ap (λ n. eqb n a.h) c.four_at.ensures) (eq-eqb _ _ c.if-four_at-h.true))) c.loop-i-test.true, omega (arith, c.requires))
-
-pub loop-i-preserved : goal.loop-i-preserved
-loop-i-preserved c = let a = c.args in let φ : Rec → Form = λ r. own r equals a.h in c.loop-i.invariant ∙ index_next φ _ _ c.loop-i-test.true (told φ c.record_at.ensures (ap (λ n. eqb n a.h) c.four_at.ensures) (ne_eqb _ _ c.if-four_at-h.false))
-
 pub returns : goal.returns
-returns c = let a = c.args in (no_place a.h a.s.now _ (c.loop-i.invariant ∙ index_end (λ r. own r equals a.h) a.s.now _ c.loop-i-test.false) c.loop-i-test.false, omega arith)
+returns c = let a = c.args in
+    let e : c.unwrap_or.result ≡ place_of a.h (records a.s.now) = c.unwrap_or.ensures ∙ place-records a.h c.records.ensures (λ x b q k. search (rules, tests)) c.position.ensures.ran in
+    (e, rw e (place_le a.h (records a.s.now) (omega (arith, length-records a.s.now))))

@@ -1,8 +1,6 @@
 -- The record's part of the store fills the array (`copy_in`); past the last record it stays zero.
 use Rattle.store_edits.proofs.Puts.{copy_in, copy_out}
-use lib.ListN.{length}
-use mathlib.Core.Path.{◌≡◌, refl}
-use native.Mathlib.Omega.{arith}
+use mathlib.Core.Path.{refl}
 use Rattle.store_edits.proofs.copy_of.Goals as goal
 
 pub returns-then-s-i : goal.returns-then-s-i

@@ -1,9 +1,9 @@
--- There is one exactly if its place is one of the places (`some_index`).
-use Rattle.paper.specs.Records.{records}
-use Rattle.store_records.proofs.Places.{some_index}
+use Rattle.std.proofs.Common.{rules}
+use Rattle.paper.specs.Form.{test}
+use Rattle.store_records.proofs.Shown.{any-records}
 use Rattle.store_records.specs.Choices.{chosen}
-use mathlib.Core.Path.{sym}
+use borrow.Author.Tests.{tests}
 use Rattle.store_records.proofs.has.Goals as goal
 
 pub returns : goal.returns
-returns c = rw (c.find.ensures, c.count.ensures) (sym (some_index (chosen c.args.c) (records c.args.s.now)))
+returns c = any-records (λ r. test (chosen c.args.c r)) c.records.ensures (λ x b q k. search (rules, tests)) c.any.ensures.ran

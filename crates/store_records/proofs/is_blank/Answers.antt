@@ -1,13 +1,12 @@
-use Prim.Native.Nat.{◌-◌}
 use mathlib.Core.Path.{◌∙◌, refl, sym}
 use Rattle.store_records.proofs.Steps.{blank_more, within-done}
 use Rattle.store_records.proofs.is_blank.Goals as goal
 
-pub loop-i-init : goal.loop-i-init
-loop-i-init c = refl
+pub loop-b-init : goal.loop-b-init
+loop-b-init c = refl
 
-pub loop-i-preserved : goal.loop-i-preserved
-loop-i-preserved c = c.loop-i.invariant ∙ blank_more c.args.s.now _ c.loop-i.seen c.loop-i-test.true
+pub loop-b-preserved : goal.loop-b-preserved
+loop-b-preserved c = c.loop-b.invariant ∙ blank_more c.args.s.now _ c.loop-b.seen c.loop-b-test.true
 
 pub returns : goal.returns
-returns c = sym (c.loop-i.invariant ∙ within-done _ _ _ _ _ c.loop-i-test.false)
+returns c = sym (c.loop-b.invariant ∙ within-done _ _ _ _ _ c.loop-b-test.false)

@@ -1,5 +1,6 @@
--- `story::tell` is safe and ends: as many turns as the file has bytes.
+-- `story::tell` ends: behind each order less of the text is left.
+use Rattle.std.proofs.Common.{length}
 use Rattle.story.proofs.tell.Given as goal
 
-abbrev pub decreases-loop-left : goal.decreases-loop-left
-decreases-loop-left g l = l.left
+abbrev pub decreases-loop-at : goal.decreases-loop-at
+decreases-loop-at g l = length l.rest

@@ -10,4 +10,4 @@ returns-then-not-length_fits c = formatted_not c.args.store.now (sym c.length_fi
 pub returns : goal.returns
 returns c =
     let args = c.args in
-    formatted-done args.store.now (sym c.length_fits.ensures ∙ not-false _ c.if-not-length_fits.false-raw) c.clear.ensures (rw (← c.counter-r.ensures) c.put.ensures)
+    formatted-done args.store.now (sym c.length_fits.ensures ∙ not-false _ c.if-not-length_fits.false-raw) (c.fill.ensures.after (λ y e. e)) (rw (← c.counter-r.ensures) c.put.ensures)

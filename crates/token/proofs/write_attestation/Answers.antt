@@ -1,9 +1,7 @@
--- The part of the reply that was lent comes back with the attestation in it (`pasted`).
-use mathlib.Core.Path.{◌≡◌, ◌∙◌, sym}
+-- The part of the reply that was lent comes back with the attestation in it (`over_part`).
 use native.Mathlib.Omega.{arith}
-use lib.ListN.{length}
-use Rattle.token.proofs.Steps.{pasted}
+use Rattle.store_edits.proofs.Puts.{over_part}
 use Rattle.token.proofs.write_attestation.Goals as goal
 
 pub returns : goal.returns
-returns c = pasted c.args.b.now c.args.a _ (omega arith) c.requires c.copy_from_slice.ensures.after
+returns c = over_part c.args.b.now c.args.a _ 5 32 (omega arith) c.requires c.copy_from_slice.ensures.after

@@ -1,22 +1,14 @@
--- Five bytes one after another, which is what `over` says.
-use mathlib.Core.Path.{refl}
+-- The status, and then the part that was lent comes back with the low four bytes of the handle in it (`over_part`).
+use mathlib.Core.Path.{refl, ◌∙◌}
 use native.Mathlib.Omega.{arith}
-use lib.ListN.{length-set}
-use Rattle.paper.specs.Bytes.{over}
+use lib.ListN.{set, length-set}
+use Rattle.paper.specs.Bytes.{enc4, over}
+use Rattle.store_edits.proofs.Puts.{over_part}
+use Rattle.token.proofs.Steps.{low_four}
 use Rattle.token.proofs.write_head.Goals as goal
-
-pub bounds-b-1 : goal.bounds-b-1
-bounds-b-1 c = simp (length-set) (omega arith)
-
-pub bounds-b : goal.bounds-b
-bounds-b c = simp (length-set) (omega arith)
-
-pub bounds-b-2 : goal.bounds-b-2
-bounds-b-2 c = simp (length-set) (omega arith)
-
-pub bounds-b-3 : goal.bounds-b-3
-bounds-b-3 c = simp (length-set) (omega arith)
 
 pub returns : goal.returns
 unfolding over
-returns c = refl
+returns c =
+    let x = c.args in
+    over_part (set x.b.now 0 x.n) (enc4 x.h) _ 1 4 refl (simp length-set (omega arith)) (c.copy_from_slice.ensures.after ∙ rw c.to_be_bytes.ensures (low_four x.h))

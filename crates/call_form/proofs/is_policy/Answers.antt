@@ -1,5 +1,0 @@
--- What each call ensures, put together, is the statement clause by clause.
-use Rattle.call_form.proofs.is_policy.Goals as goal
-
-pub returns : goal.returns
-returns c = rw c.has_id.ensures

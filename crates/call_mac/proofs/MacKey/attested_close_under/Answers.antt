@@ -1,0 +1,7 @@
+-- The one string is taken.
+use Rattle.paper.specs.Mac.{mac_under}
+use Rattle.call_mac.proofs.MacKey.attested_close_under.Goals as goal
+
+pub returns : goal.returns
+unfolding mac_under
+returns c = c.finish.ensures _ _ (c.with_string.ensures _ _ c.begun_attestation.ensures)

@@ -1,9 +1,0 @@
--- Piece by piece the data is taken, in the order of the definition.
-use Rattle.paper.specs.Mac.{mac_under}
-use Rattle.call_mac.proofs.policy_under.Goals as goal
-
-pub returns : goal.returns
-unfolding mac_under
-returns c =
-    c.finish.ensures _ _ (c.update.ensures _ _ (c.with_name_or.ensures _ _
-    (c.with_string.ensures _ _ c.begun-m.ensures)))

@@ -1,7 +1,0 @@
--- What each call ensures, put together, is the statement clause by clause.
-use Rattle.issuer.proofs.Cases.{says}
-use Rattle.issuer.proofs.is_path.Goals as goal
-
-pub returns : goal.returns
-returns c =
-    says (rw (c.is_ready.ensures, c.are_certificates.ensures, c.is_id.ensures, c.has_length-public_fits.ensures))

@@ -1,8 +1,0 @@
--- Piece by piece, behind the text that stands in front.
-use Rattle.issuer.proofs.Writing.{◌and_then◌}
-use Rattle.issuer.proofs.put_key_back.Goals as goal
-
-pub returns : goal.returns
-returns c = λ front before w.
-    w and_then c.put-at.ensures and_then c.put_string-at.ensures and_then c.put_string-at-2.ensures
-    and_then c.put_string-at-3.ensures and_then c.put_two.ensures

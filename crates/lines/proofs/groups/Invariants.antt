@@ -1,9 +1,0 @@
--- `lines::groups` is safe and ends: as many groups are tried as the file says, and both stores keep their lengths.
-use Rattle.std.proofs.Common.{◌≡◌, ◌-◌, ◌≤◌, length}
-use Rattle.lines.proofs.groups.Given as goal
-
-abbrev pub invariant-loop-i : goal.invariant-loop-i
-invariant-loop-i g l = (l.i ≤ l.n) × (length l.store ≡ length l.initial.store) × (length l.wanted ≡ length l.initial.wanted)
-
-abbrev pub decreases-loop-i : goal.decreases-loop-i
-decreases-loop-i g l = l.n - l.i

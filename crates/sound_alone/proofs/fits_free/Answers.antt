@@ -1,6 +1,0 @@
--- The tests of the fields joined are the table's row, however they are grouped.
-use mathlib.Core.Bool.{and_assoc, and-true}
-use Rattle.sound_alone.proofs.fits_free.Goals as goal
-
-pub returns : goal.returns
-returns c = simp (c.is_byte.ensures, c.blank_to.ensures, and_assoc, and-true)

@@ -1,5 +1,0 @@
--- The statement, written as a test.
-use Rattle.sound_alone.proofs.lengths_rise.Goals as goal
-
-pub returns : goal.returns
-returns c = rw (c.byte_at.ensures, c.byte_at-2.ensures, c.byte_at-3.ensures)

@@ -1,5 +1,0 @@
--- The statement, written as a test.
-use Rattle.sound_alone.proofs.pinned_key.Goals as goal
-
-pub returns : goal.returns
-returns c = rw (c.byte_at.ensures, c.four_at.ensures, c.byte_at-2.ensures)
