@@ -70,14 +70,15 @@ fn with_name_or(m: Mac, handle: u32, name: &[u8]) -> Mac
     with_or_none(m, handle != 0, name)
 }
 
-// The n certificates of a path, from place k on.
+// The n certificates of a path, from place k on. There may be many short ones, so each is taken here as `with_string` takes it, without a call.
 fn with_certificates(m: Mac, c: &[u8], k: u16, n: u8) -> Mac
     ensures { (key text : List ℕ) → Keyed m key text → Keyed result key (text ++ each_string (strings n k c.now)) }
 {
     let mut r = m;
     let mut at = k as usize;
     for _ in 0..n {
-        r = with_string(r, call_reader::string_in(c, at));
+        let v = call_reader::string_in(c, at);
+        r = hmac::update(hmac::update(r, &two_bytes(v.len())), v);
         at += 2 + two_at(c, at);
     }
     r

@@ -60,7 +60,8 @@ pub fn start(key: &[u8]) -> Mac
     Mac { inner, outer }
 }
 
-// The bytes of d are taken, after those taken before.
+// The bytes of d are taken, after those taken before. It goes into callers, as the hash's own step does.
+#[inline]
 pub fn update(s: Mac, d: &[u8]) -> Mac
     ensures { (k text : List ℕ) → Keyed s k text → Keyed result k (text ++ d.now) }
 {
