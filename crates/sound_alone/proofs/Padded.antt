@@ -67,10 +67,10 @@ no_less v = omega arith
 pub blank_start : (v : ℕ) (s : List ℕ) → is_blank (drop v s) ≡ is_blank (drop (v - 0) s)
 blank_start v s = rw (no_less v)
 
-pub blank_more : (v : ℕ) (s : List ℕ) (i : ℕ) (bad : Bool) → i < length s
+pub blank_more : (v : ℕ) (s : List ℕ) (p i : ℕ) (bad : Bool) → p ≡ i → i < length s
     → not bad && is_blank (drop (v - i) (drop i s))
-    ≡ not (bad || (leb v i && not (eqb (get_or s i 0) 0))) && is_blank (drop (v - (i + 1)) (drop (i + 1) s))
-blank_more v s i bad h = rw (none_left v i) (next (λ k l. is_blank (drop k l)) (λ k b. eqb k 0 && not (eqb b 0)) blank_cell v s i bad h)
+    ≡ not (bad || (leb v p && not (eqb (get_or s i 0) 0))) && is_blank (drop (v - (i + 1)) (drop (i + 1) s))
+blank_more v s p i bad e h = rw (e, none_left v i) (next (λ k l. is_blank (drop k l)) (λ k b. eqb k 0 && not (eqb b 0)) blank_cell v s i bad h)
 
 pub blank_done : (k : ℕ) (s : List ℕ) (i : ℕ) (bad : Bool) → length s ≤ i → not bad && is_blank (drop k (drop i s)) ≡ not bad
 unfolding all_within
@@ -94,12 +94,12 @@ ident_cell (suc k) b l =
 pub ident_start : (v : ℕ) (s : List ℕ) → is_blank (drop v s) && printable (take v s) ≡ is_blank (drop (v - 0) s) && printable (take (v - 0) s)
 ident_start v s = rw (no_less v)
 
-pub ident_more : (v : ℕ) (s : List ℕ) (i : ℕ) (bad w : Bool) → i < length s → w ≡ within 0x21 0x7E (get_or s i 0)
+pub ident_more : (v : ℕ) (s : List ℕ) (p i : ℕ) (bad w : Bool) → p ≡ i → i < length s → w ≡ within 0x21 0x7E (get_or s i 0)
     → not bad && (is_blank (drop (v - i) (drop i s)) && printable (take (v - i) (drop i s)))
-    ≡ not (bad || ((ltb i v && not w) || (leb v i && not (eqb (get_or s i 0) 0))))
+    ≡ not (bad || ((ltb p v && not w) || (leb v p && not (eqb (get_or s i 0) 0))))
     && (is_blank (drop (v - (i + 1)) (drop (i + 1) s)) && printable (take (v - (i + 1)) (drop (i + 1) s)))
-ident_more v s i bad w h f =
-    rw (f, none_left v i, some_left v i)
+ident_more v s p i bad w e h f =
+    rw (e, f, none_left v i, some_left v i)
     (next (λ k l. is_blank (drop k l) && printable (take k l)) (λ k b. (not (eqb k 0) && not (within 0x21 0x7E b)) || (eqb k 0 && not (eqb b 0))) ident_cell v s i bad h)
 
 pub ident_done : (k : ℕ) (s : List ℕ) (i : ℕ) (bad : Bool) → length s ≤ i

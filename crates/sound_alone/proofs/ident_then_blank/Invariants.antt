@@ -1,4 +1,4 @@
--- Invariant: the answer for all bytes is that for those so far, and the answer for those from i on (`ident_more`).
+-- Invariant: p counts with the bytes, and the answer for all bytes is that for those so far, and the answer for those from there on (`ident_more`).
 use Prim.Native.Nat.{◌-◌}
 use mathlib.Core.Bool.{not, ◌&&◌}
 use mathlib.Core.Path.{◌≡◌}
@@ -6,5 +6,5 @@ use lib.ListN.{drop, take}
 use Rattle.paper.specs.Table.{is_blank, printable}
 use Rattle.sound_alone.proofs.ident_then_blank.Given as goal
 
-abbrev pub invariant-loop-i : goal.invariant-loop-i
-invariant-loop-i l = is_blank (drop l.v l.s) && printable (take l.v l.s) ≡ not l.bad && (is_blank (drop (l.v - l.i) (drop l.i l.s)) && printable (take (l.v - l.i) (drop l.i l.s)))
+abbrev pub invariant-loop-b : goal.invariant-loop-b
+invariant-loop-b l = (l.p ≡ l.b-index) × (is_blank (drop l.v l.s) && printable (take l.v l.s) ≡ not l.bad && (is_blank (drop (l.v - l.b-index) (drop l.b-index l.s)) && printable (take (l.v - l.b-index) (drop l.b-index l.s))))
