@@ -96,6 +96,9 @@ impl<'a> Reader<'a> {
 
     fn bytes<const N: usize>(&mut self) -> [u8; N] {
         let taken = self.take(N);
+        if let Some(whole) = taken.as_array() {
+            return *whole;
+        }
         let mut bytes = [0; N];
         bytes[..taken.len()].copy_from_slice(taken);
         bytes
@@ -155,10 +158,11 @@ impl Records<'_> {
         let mut reader = self.reader;
         for _ in 0..self.count {
             let (place, text) = reader.record();
-            if let Some(record) = store.chunks_mut(RECORD_BYTES).nth(usize::from(place)) {
-                let n = text.len().min(record.len());
-                record[..n].copy_from_slice(&text[..n]);
-                record[n..].fill(0);
+            if let Some(rest) = store.get_mut(usize::from(place) * RECORD_BYTES..) {
+                let end = rest.len().min(RECORD_BYTES);
+                let n = text.len().min(end);
+                rest[..n].copy_from_slice(&text[..n]);
+                rest[n..end].fill(0);
             }
         }
     }
