@@ -4,7 +4,7 @@
 
 #![tactic(auto)]
 
-ghost use Rattle.std.specs.Prelude.{◌≡◌, [], map, ◌≤◌, get_or, set, length};
+ghost use Rattle.std.specs.Prelude.{◌≡◌, [], map, ℕ, ◌≤◌, get_or, set, length};
 ghost use Rattle.paper.specs.Bytes.{over};
 ghost use Rattle.paper.specs.Form.{test, some};
 ghost use Rattle.paper.specs.Records.{records};
@@ -13,8 +13,9 @@ ghost use Rattle.paper.specs.Closing.{stale as staled, shut as closed, effect, c
 ghost use Rattle.paper.specs.Users.{new_pin};
 ghost use Rattle.store_records.specs.View.{Becomes};
 ghost use Rattle.effect_plan.specs.Sets.{keys_of};
+ghost use Rattle.effect_plan.specs.declared.Fate.{Fate};
 ghost use Rattle.effect_plan.specs.Fate.{fate_of, Plan, planned};
-ghost use Rattle.effect_deeds.specs.Deeds.{done, dealt};
+ghost use Rattle.effect_deeds.specs.Deeds.{done, each_at, dealt};
 ghost use Rattle.effect_deeds.specs.Outcome.{close_fate, given, given_as, repinned, Widened, Spans, pin_fate, deed_fate, outcome, unless_long};
 
 use effect_plan::{Fate, Keys, has_key, held_keys, plan_of};
@@ -98,29 +99,47 @@ fn turn_at(s: &mut [u8], i: usize, f: Fate, v: &[u8])
     put(s, i, &r);
 }
 
-// What a plan says of record i: past its end the record stays.
-fn planned(p: &[Fate], i: usize) -> Fate
-    ensures { result ≡ planned i p.now }
-{
-    p.get(i).copied().unwrap_or(Fate::Stays)
+// A plan says of the record at each place what becomes of it; past its end records stay. Both kinds go through one loop, `deal_by`.
+trait Fates: Copy {
+    ghost says: { Self → ℕ → Fate };
+
+    fn fate_at(self, i: usize) -> Fate
+        ensures { result ≡ says self i };
+}
+
+impl Fates for &[Fate] {
+    ghost says = { λ p i. planned i p.now };
+
+    fn fate_at(self, i: usize) -> Fate {
+        self.get(i).copied().unwrap_or(Fate::Stays)
+    }
+}
+
+// Numbers, each of which stands for a fate.
+impl Fates for &[u8] {
+    ghost says = { λ p i. planned i (map fate_of p.now) };
+
+    #[tactic(auto, using(crate::proofs::Turns::numbers_planned))]
+    fn fate_at(self, i: usize) -> Fate {
+        Fate::from(byte_at(self, i))
+    }
 }
 
 // Every record becomes what the plan says of it; v is the new PIN of those that get one.
-fn deal_fates(s: &mut [u8], p: &[Fate], v: &[u8])
-    ensures { Becomes (dealt v.now p.now (records s.old)) s.old s.new }
+fn deal_by<P: Fates>(s: &mut [u8], p: P, v: &[u8])
+    ensures { Becomes (each_at (λ i. done v.now (P.says p i)) 0 (records s.old)) s.old s.new }
 {
     for i in 0..count(s) {
-        turn_at(s, i, planned(p, i), v);
+        turn_at(s, i, p.fate_at(i), v);
     }
 }
 
-// The same by a plan of numbers, each of which stands for a fate; past its end too a record stays.
+// The same by a plan of numbers.
+#[tactic(auto, unfolding(crate::specs::Deeds::dealt))]
 pub fn deal(s: &mut [u8], p: &[u8], v: &[u8])
     ensures { Becomes (dealt v.now (map fate_of p.now) (records s.old)) s.old s.new }
 {
-    for k in 0..count(s) {
-        turn_at(s, k, Fate::from(byte_at(p, k)), v);
-    }
+    deal_by(s, p, v);
 }
 
 // ---- the plans of the three deeds
@@ -292,7 +311,7 @@ fn enact(store: &mut [u8], d: Deed, v: &[u8])
         return;
     }
     let p = plan(store, d);
-    deal_fates(store, &p, v);
+    deal_by(store, &p[..], v);
 }
 
 // The keys of ds are removed and those of us unlocked.

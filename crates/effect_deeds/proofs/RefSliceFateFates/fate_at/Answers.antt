@@ -2,7 +2,7 @@
 use Rattle.effect_plan.specs.Fate.{planned}
 use Rattle.effect_plan.specs.declared.Fate.TheVariants.{Stays}
 use native.Mathlib.Omega.{arith}
-use Rattle.effect_deeds.proofs.planned.Goals as goal
+use Rattle.effect_deeds.proofs.RefSliceFateFates.fate_at.Goals as goal
 
 pub returns : goal.returns
 unfolding planned

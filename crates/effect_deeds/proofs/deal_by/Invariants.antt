@@ -1,7 +1,7 @@
 -- Invariant: what is done and what is to do make up the whole plan (`turns_step`, `turns_done`).
 use Rattle.effect_deeds.proofs.Turns.{Turns}
-use Rattle.effect_deeds.specs.Deeds.{turn}
-use Rattle.effect_deeds.proofs.deal_fates.Given as goal
+use Rattle.effect_deeds.specs.Deeds.{done}
+use Rattle.effect_deeds.proofs.deal_by.Given as goal
 
 abbrev pub invariant-loop-i : goal.invariant-loop-i
-invariant-loop-i l = Turns (turn l.v l.p) l.initial.s l.s l.i
+invariant-loop-i g l = Turns (λ i. done l.v (g.P.Fates.says l.p i)) l.initial.s l.s l.i
