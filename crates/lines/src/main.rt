@@ -96,6 +96,7 @@ impl<'a> Reader<'a> {
 
     fn bytes<const N: usize>(&mut self) -> [u8; N] {
         let taken = self.take(N);
+        // Only at the file's end are they fewer, and a copy of so many as there are would be a call.
         if let Some(whole) = taken.as_array() {
             return *whole;
         }
