@@ -60,13 +60,13 @@ pub fn start(key: &[u8]) -> Mac
     Mac { inner, outer }
 }
 
-// The bytes of d are taken, after those taken before. It goes into callers, as the hash's own step does.
+// The bytes of d are taken, after those taken before. It goes into callers, with the hash's short way.
 #[inline]
 pub fn update(s: Mac, d: &[u8]) -> Mac
     ensures { (k text : List ℕ) → Keyed s k text → Keyed result k (text ++ d.now) }
 {
     let outer = s.outer;
-    let inner = sha256::update(s.inner, d);
+    let inner = sha256::update_piece(s.inner, d);
     Mac { inner, outer }
 }
 

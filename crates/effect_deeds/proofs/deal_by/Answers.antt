@@ -1,3 +1,4 @@
+-- Records are changed one by one, each by its fate (`turns_step`), until none is left (`turns_done`).
 use Rattle.effect_deeds.proofs.Turns.{turns_done, turns_step}
 use Rattle.effect_deeds.specs.Deeds.{done}
 use native.Mathlib.Omega.{arith}

@@ -6,6 +6,6 @@ pub returns : goal.returns
 returns c =
     λ k text h.
     record {
-      inner = rw (← append_assoc) (c.update-inner.ensures _ h.inner);
+      inner = rw (← append_assoc) (c.update_piece-inner.ensures _ h.inner);
       outer = h.outer;
     }

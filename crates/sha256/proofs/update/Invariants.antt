@@ -2,7 +2,7 @@
 use Rattle.std.proofs.Common.{◌≡◌, ℕ, List, ◌++◌}
 use Rattle.sha256.specs.State.{Stands}
 use Rattle.sha256.proofs.Standing.{Between, tail}
-use Rattle.sha256.proofs.fill.Given as goal
+use Rattle.sha256.proofs.update.Given as goal
 
 abbrev pub invariant-loop-b : goal.invariant-loop-b
 invariant-loop-b l =
